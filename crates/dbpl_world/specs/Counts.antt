@@ -1,0 +1,42 @@
+-- The counts of a world, which never fall, and which of them a call may raise.
+use Rattle.std.specs.Prelude.{◌≡◌, ℕ, ◌+◌, ◌-◌, ◌^◌, ◌≤◌, min}
+use Rattle.dbpl_world.specs.declared.part.Part.{Part}
+use Rattle.dbpl_world.specs.declared.part.Part.TheVariants.{Log, Pages}
+
+pub record Counts : Type 0 where
+  pub take_faults : ℕ
+  pub say_faults : ℕ
+  pub note_faults : ℕ
+  pub disk_faults : ℕ
+  pub page_reads : ℕ
+
+-- A count of 64 bits has risen, or stands at its last value.
+abbrev pub Rose : ℕ → ℕ → Type 0
+Rose old new = min (old + 1) (2 ^ 64 - 1) ≤ new
+
+pub record OnlyTakeFaults (old new : Counts) : Type 0 where
+  pub others : new ≡ record old { take_faults = new.take_faults }
+  pub later : old.take_faults ≤ new.take_faults
+
+pub record OnlySayFaults (old new : Counts) : Type 0 where
+  pub others : new ≡ record old { say_faults = new.say_faults }
+  pub later : old.say_faults ≤ new.say_faults
+
+pub record OnlyNoteFaults (old new : Counts) : Type 0 where
+  pub others : new ≡ record old { note_faults = new.note_faults }
+  pub later : old.note_faults ≤ new.note_faults
+
+pub record OnlyDiskFaults (old new : Counts) : Type 0 where
+  pub others : new ≡ record old { disk_faults = new.disk_faults }
+  pub later : old.disk_faults ≤ new.disk_faults
+
+-- A read of the pages may raise the count of page reads by one, and a read of the log doesn't.
+abbrev pub page_reads_of : Part → ℕ
+page_reads_of Log = 0
+page_reads_of Pages = 1
+
+pub record OnlyReads (part : Part) (old new : Counts) : Type 0 where
+  pub others : new ≡ record old { disk_faults = new.disk_faults; page_reads = new.page_reads }
+  pub later : old.disk_faults ≤ new.disk_faults
+  pub reads_later : old.page_reads ≤ new.page_reads
+  pub reads_within : new.page_reads ≤ old.page_reads + page_reads_of part

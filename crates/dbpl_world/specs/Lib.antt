@@ -1,0 +1,5 @@
+pub mod Counts
+pub mod Files
+pub mod History
+pub mod Images
+pub mod Moments

@@ -1,0 +1,19 @@
+//! The outside of a database: input, output, notes and the two parts of a store, and the shelf that program texts come
+//! from. A world tells its history; what a stop may leave is defined over it.
+#![tactic(auto)]
+
+mod failed;
+mod mount_err;
+mod no_memory;
+mod outside;
+mod part;
+mod shelf;
+mod shelf_err;
+
+pub use failed::Failed;
+pub use mount_err::MountErr;
+pub use no_memory::NoMemory;
+pub use outside::World;
+pub use part::Part;
+pub use shelf::Shelf;
+pub use shelf_err::ShelfErr;
