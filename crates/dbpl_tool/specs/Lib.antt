@@ -1,0 +1,8 @@
+pub mod Answers
+pub mod Asked
+pub mod Events
+pub mod Headline
+pub mod Meaning
+pub mod Noting
+pub mod Printing
+pub mod Sources
