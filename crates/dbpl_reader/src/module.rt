@@ -15,6 +15,7 @@ use dbpl_tree::Program;
 use std::alloc::Global;
 
 /// What follows the imports.
+#[tactic(auto, unfolding(crate::specs::Modules::imports, dbpl_tree::specs::Words::in_out, dbpl_tree::specs::Words::write_string, dbpl_tree::specs::Words::write_ln))]
 fn imports(text: &[u8]) -> Option<&[u8]>
     ensures { option_copied result ≡ spec.imports text.now }
 {
@@ -28,6 +29,7 @@ fn imports(text: &[u8]) -> Option<&[u8]>
 }
 
 /// The name of the module, and its body.
+#[tactic(auto, unfolding(crate::specs::Modules::heading))]
 fn heading(text: &[u8]) -> Option<(&[u8], &[u8])>
     ensures { option_map (λ read. (read.0.now, read.1.now)) result ≡ spec.heading text.now }
 {
@@ -40,6 +42,7 @@ fn heading(text: &[u8]) -> Option<(&[u8], &[u8])>
 }
 
 /// What follows the end of the module of this name.
+#[tactic(auto, unfolding(crate::specs::Modules::ending))]
 fn ending<'a>(text: &'a [u8], name: &[u8]) -> Option<&'a [u8]>
     ensures { option_copied result ≡ spec.ending name.now text.now }
 {
@@ -49,6 +52,7 @@ fn ending<'a>(text: &'a [u8], name: &[u8]) -> Option<&'a [u8]>
 }
 
 /// The first module, and what follows it.
+#[tactic(auto, unfolding(crate::specs::Modules::first_module))]
 fn module(alloc: Global, text: &[u8]) -> Result<(Program, &[u8]), ReadErr>
     ensures { Gives (λ read. (read.0, read.1.now)) result (spec.first_module text.now) }
 {

@@ -62,16 +62,18 @@ static RESERVED_WORDS: [&[u8]; 50] = [
 /// The names that a module of the form that is read so far imports.
 static IMPORTED: [&[u8]; 3] = [b"InOut", b"WriteString", b"WriteLn"];
 
+#[tactic(auto, unfolding(crate::specs::Names::is_reserved))]
 fn is_reserved(name: &[u8]) -> bool
     ensures { result ≡ spec.is_reserved name.now }
 {
-    RESERVED_WORDS.iter().any(|word| *word == name)
+    RESERVED_WORDS.contains(&name)
 }
 
+#[tactic(auto, unfolding(crate::specs::Names::is_imported, dbpl_tree::specs::Words::in_out, dbpl_tree::specs::Words::write_string, dbpl_tree::specs::Words::write_ln))]
 fn is_imported(name: &[u8]) -> bool
     ensures { result ≡ spec.is_imported name.now }
 {
-    IMPORTED.iter().any(|imported| *imported == name)
+    IMPORTED.contains(&name)
 }
 
 fn begins_with_letter(word: &[u8]) -> bool
@@ -82,6 +84,7 @@ fn begins_with_letter(word: &[u8]) -> bool
 }
 
 /// The name of a module, and what follows it.
+#[tactic(auto, unfolding(crate::specs::Names::module_name))]
 pub fn module_name(text: &[u8]) -> Option<(&[u8], &[u8])>
     ensures { option_map (λ read. (read.0.now, read.1.now)) result ≡ spec.module_name text.now }
 {

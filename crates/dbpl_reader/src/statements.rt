@@ -11,6 +11,7 @@ use dbpl_tree::Statement;
 use std::alloc::Global;
 
 /// The string that a WriteString writes, and what follows the statement.
+#[tactic(auto, unfolding(crate::specs::Statements::write_string_in, dbpl_tree::specs::Words::write_string))]
 fn write_string(text: &[u8]) -> Option<(&[u8], &[u8])>
     ensures { option_map (λ read. (read.0.now, read.1.now)) result ≡ spec.write_string_in text.now }
 {
@@ -22,6 +23,7 @@ fn write_string(text: &[u8]) -> Option<(&[u8], &[u8])>
 }
 
 /// The first statement, and what follows it.
+#[tactic(auto, unfolding(crate::specs::Statements::statement, dbpl_tree::specs::Words::write_ln))]
 fn statement(alloc: Global, text: &[u8]) -> Result<(Statement, &[u8]), ReadErr>
     ensures { Gives (λ read. (read.0, read.1.now)) result (spec.statement text.now) }
 {

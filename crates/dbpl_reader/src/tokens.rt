@@ -1,6 +1,7 @@
 //! What stands at the front of a text: blanks, words, signs and strings. A token is read behind the blanks before it,
 //! and only where it is the longest that stands there.
-ghost use Rattle.std.specs.Prelude.{◌≡◌, take_while};
+ghost use Rattle.std.specs.Prelude.{◌≡◌, ◌≤◌, length};
+ghost use Rattle.std.specs.List.{prefix_len};
 ghost use Rattle.std.specs.Option.{option_copied, option_map};
 ghost use Rattle.dbpl_base.specs.Spelling.{is_text_byte};
 ghost use Rattle.dbpl_base.specs.Words as bytes;
@@ -28,6 +29,7 @@ fn is_text_byte(quote: u8, byte: u8) -> bool
 }
 
 /// Whether the two bytes begin one sign, or a comment.
+#[tactic(auto, unfolding(crate::specs::Tokens::joins))]
 fn joins(first: u8, second: u8) -> bool
     ensures { result ≡ spec.joins first second }
 {
@@ -41,44 +43,52 @@ fn joins(first: u8, second: u8) -> bool
     )
 }
 
+/// How many blanks stand at the front.
+fn blank_count(text: &[u8]) -> usize
+    ensures count { result ≡ prefix_len bytes.is_blank text.now }
+    ensures within { result ≤ length text.now }
+{
+    text.iter().take_while(|byte| is_blank(**byte)).count()
+}
+
+/// How many letters and digits stand at the front.
+fn word_length(text: &[u8]) -> usize
+    ensures count { result ≡ prefix_len bytes.is_word_byte text.now }
+    ensures within { result ≤ length text.now }
+{
+    text.iter().take_while(|byte| is_word_byte(**byte)).count()
+}
+
+/// How many bytes that a string in this quote may hold stand at the front.
+fn text_length(quote: u8, text: &[u8]) -> usize
+    ensures count { result ≡ prefix_len (spec.is_text_byte quote) text.now }
+    ensures within { result ≤ length text.now }
+{
+    text.iter()
+        .take_while(|byte| is_text_byte(quote, **byte))
+        .count()
+}
+
 /// What follows the blanks at the front.
+#[tactic(auto, unfolding(crate::specs::Tokens::after_blanks))]
 pub fn after_blanks(text: &[u8]) -> &[u8]
     ensures { result.now ≡ spec.after_blanks text.now }
 {
-    let blanks = text.iter().take_while(|byte| is_blank(**byte)).count();
-    &text[blanks..]
+    &text[blank_count(text)..]
 }
 
-/// The letters and digits at the front, and what follows them.
-fn split_word(text: &[u8]) -> (&[u8], &[u8])
-    ensures word { result.0.now ≡ take_while bytes.is_word_byte text.now }
-    ensures rest { result.1.now ≡ spec.drop_while bytes.is_word_byte text.now }
-{
-    let length = text.iter().take_while(|byte| is_word_byte(**byte)).count();
-    text.split_at(length)
-}
-
-/// The bytes at the front that a string in this quote may hold, and what follows them.
-fn split_text(quote: u8, text: &[u8]) -> (&[u8], &[u8])
-    ensures inside { result.0.now ≡ take_while (spec.is_text_byte quote) text.now }
-    ensures rest { result.1.now ≡ spec.drop_while (spec.is_text_byte quote) text.now }
-{
-    let length = text
-        .iter()
-        .take_while(|byte| is_text_byte(quote, **byte))
-        .count();
-    text.split_at(length)
-}
-
-/// The word behind the blanks, which is empty if none stands there, and what follows it.
+/// The letters and digits behind the blanks, if any, and what follows them.
+#[tactic(auto, unfolding(crate::specs::Tokens::next_word))]
 pub fn next_word(text: &[u8]) -> (&[u8], &[u8])
     ensures word { result.0.now ≡ (spec.next_word text.now).0 }
     ensures rest { result.1.now ≡ (spec.next_word text.now).1 }
 {
-    split_word(after_blanks(text))
+    let text = after_blanks(text);
+    text.split_at(word_length(text))
 }
 
 /// What follows this word.
+#[tactic(auto, unfolding(crate::specs::Tokens::word))]
 pub fn word<'a>(text: &'a [u8], expected: &[u8]) -> Option<&'a [u8]>
     ensures { option_copied result ≡ spec.word expected.now text.now }
 {
@@ -87,6 +97,7 @@ pub fn word<'a>(text: &'a [u8], expected: &[u8]) -> Option<&'a [u8]>
 }
 
 /// What follows this sign of one byte.
+#[tactic(auto, unfolding(crate::specs::Tokens::sign))]
 pub fn sign(text: &[u8], expected: u8) -> Option<&[u8]>
     ensures { option_copied result ≡ spec.sign expected text.now }
 {
@@ -106,6 +117,7 @@ fn goes_on(before: u8, text: &[u8]) -> bool
 }
 
 /// The text of a string, without its quotes, and what follows it.
+#[tactic(auto, unfolding(crate::specs::Tokens::quoted))]
 pub fn quoted(text: &[u8]) -> Option<(&[u8], &[u8])>
     ensures { option_map (λ read. (read.0.now, read.1.now)) result ≡ spec.quoted text.now }
 {
@@ -113,7 +125,7 @@ pub fn quoted(text: &[u8]) -> Option<(&[u8], &[u8])>
     if *quote != b'"' && *quote != b'\'' {
         return None;
     }
-    let (inside, rest) = split_text(*quote, behind);
+    let (inside, rest) = behind.split_at(text_length(*quote, behind));
     let (closing, rest) = rest.split_first()?;
     if closing == quote {
         Some((inside, rest))
