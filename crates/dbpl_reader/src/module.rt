@@ -15,7 +15,7 @@ use dbpl_tree::Program;
 use std::alloc::Global;
 
 /// What follows the imports.
-#[tactic(auto, unfolding(crate::specs::Modules::imports, dbpl_tree::specs::Words::in_out, dbpl_tree::specs::Words::write_string, dbpl_tree::specs::Words::write_ln))]
+#[tactic(auto, unfolding(crate::specs::Modules::imports, crate::specs::Tokens::word, dbpl_tree::specs::Words::in_out, dbpl_tree::specs::Words::write_string, dbpl_tree::specs::Words::write_ln))]
 fn imports(text: &[u8]) -> Option<&[u8]>
     ensures { option_copied result ≡ spec.imports text.now }
 {
