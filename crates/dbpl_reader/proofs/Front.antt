@@ -1,5 +1,5 @@
 -- Which token stands at the front of a text, apart from its place, and which words, signs and strings are read there.
-use Rattle.std.proofs.Common.{◌≡◌, ◌≢◌, ◌⊎◌, ℕ, ◌+◌, ◌≤◌, ◌<◌, Bool, true, false, cond, ◌&&◌, ◌||◌, not, List, [], ◌∷◌, ◌++◌, length, refl, sym, ap, ap₂, ◌∙◌, subst, inl, inr, arith, Option, Some, None, append_assoc, eqb-true, eq-eqb}
+use Rattle.std.proofs.Common.{◌≡◌, ◌≢◌, ◌⊎◌, ℕ, ◌+◌, ◌≤◌, ◌<◌, Bool, true, false, cond, ◌&&◌, ◌||◌, not, List, [], ◌∷◌, ◌++◌, length, refl, sym, ap, ap₂, ◌∙◌, subst, inl, inr, arith, Option, Some, None, append_assoc, length-append, eqb-true, eq-eqb}
 use Rattle.std.specs.List.{list_all, prefix_len}
 use Rattle.std.specs.Prelude.{◌==◌, take_while}
 use Rattle.std.specs.Str.{bytes_eq}
@@ -13,7 +13,7 @@ use Rattle.dbpl_base.specs.declared.lexeme.Lexeme.{Lexeme}
 use Rattle.dbpl_base.specs.declared.lexeme.Lexeme.TheVariants.{Ident, Text, Reserved, Sign}
 use Rattle.dbpl_reader.specs.Tokens.{after_blanks, drop_while, goes_on, is_text_byte, joins, next_word, quoted, sign, sign_at, word}
 use Rattle.dbpl_reader.proofs.Runs.{Stops, drop_while-append, rest_stops, run-and-rest, run_passes, take_while-append}
-use Rattle.dbpl_reader.proofs.Spellings.{BeginsBy, begins, begins-append, first_byte, first_no_blank, identifier_passes, identifier_spells, letter_word}
+use Rattle.dbpl_reader.proofs.Spellings.{AreApart, BeginsBy, begins, begins-append, begins_apart, first_byte, first_no_blank, identifier_begins, identifier_passes, identifier_spells, letter_word, word_some}
 
 -- the text is a gap of blanks, a word of this lexeme, and this rest
 pub record Stands (text : List ℕ) (lexeme : Lexeme) (rest : List ℕ) : Type 0 where
@@ -82,10 +82,6 @@ word_longest (first ∷ others) rest h stops lexeme (byte ∷ more) after is som
     let halts = subst (λ (front : List ℕ). Stops is_word_byte front) is stops in
     true≢false (sym goes ∙ halts)
 
-identifier_first : (word : List ℕ) → IsIdentifier word → BeginsBy is_letter word
-identifier_first [] h = h
-identifier_first (first ∷ others) h = h.0
-
 -- an identifier at the front is what is read as the next word
 pub next_word-stands : (text : List ℕ) (lexeme : Lexeme) (rest : List ℕ) (s : Stands text lexeme rest) → IsIdentifier s.word → next_word text ≡ (s.word, rest)
 unfolding next_word
@@ -101,4 +97,24 @@ stands_next_word text lexeme h spelt =
     let front = after_blanks text in
     let run = take_while is_word_byte front in
     let rest = drop_while is_word_byte front in
-    stands_after_blanks text lexeme run rest (sym (run-and-rest is_word_byte front)) spelt (word_longest run rest h (rest_stops is_word_byte front)) (begins_no_comment is_letter run rest refl (identifier_first run h))
+    stands_after_blanks text lexeme run rest (sym (run-and-rest is_word_byte front)) spelt (word_longest run rest h (rest_stops is_word_byte front)) (begins_no_comment is_letter run rest refl (identifier_begins run h))
+
+-- ---- one token at a time
+
+-- two tokens of kinds that begin otherwise don't stand in one place
+pub stands_apart : (text : List ℕ) (one other : Lexeme) (rest after : List ℕ) → AreApart (begins one) (begins other) → Stands text one rest → Stands text other after → ⊥
+stands_apart text one other rest after apart s t =
+    let first = begins-append (begins one) s.word rest (first_byte one s.word s.spelt) in
+    let second = begins-append (begins other) t.word after (first_byte other t.word t.spelt) in
+    let same = sym (after_blanks-stands text one rest s) ∙ after_blanks-stands text other after t in
+    begins_apart (begins one) (begins other) (t.word ++ after) apart (subst (λ (front : List ℕ). BeginsBy (begins one) front) same first) second
+
+-- a token takes at least one byte
+pub stands_shorter : (text : List ℕ) (lexeme : Lexeme) (rest : List ℕ) → Stands text lexeme rest → length rest < length text
+stands_shorter text lexeme rest s =
+    let some = some_length s.word (word_some lexeme s.word s.spelt) in
+    rw s.split (simp length-append (omega arith))
+  where
+    some_length : (word : List ℕ) → word ≢ [] → 0 < length word
+    some_length [] h = absurd (h refl)
+    some_length (first ∷ others) h = omega arith

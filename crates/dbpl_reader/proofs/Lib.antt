@@ -1,4 +1,11 @@
 pub mod Front
+pub mod Leads
+pub mod NameLaw
+pub mod PlaceLaw
 pub mod Runs
+pub mod Signs
 pub mod Spellings
+pub mod Strings
 pub mod Tables
+pub mod Takes
+pub mod Words

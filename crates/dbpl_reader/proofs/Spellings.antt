@@ -134,7 +134,7 @@ first_no_blank Finish byte e = absurd (false≢true e)
 
 -- ---- the first byte of a word
 
-identifier_begins : (word : List ℕ) → IsIdentifier word → BeginsBy is_letter word
+pub identifier_begins : (word : List ℕ) → IsIdentifier word → BeginsBy is_letter word
 identifier_begins [] h = h
 identifier_begins (first ∷ others) h = h.0
 

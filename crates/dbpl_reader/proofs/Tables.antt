@@ -1,9 +1,9 @@
 -- Rows of a table of words, and the tables of reserved words and of signs.
 use Rattle.std.proofs.Common.{◌≡◌, ◌≢◌, ◌⊎◌, ℕ, zero, suc, Bool, true, false, ◌&&◌, ◌||◌, not, List, [], ◌∷◌, refl, sym, ◌∙◌, subst, inl, inr, Option, Some, None}
-use Rattle.std.specs.List.{list_all, slice_get}
+use Rattle.std.specs.List.{list_all, list_any}
 use Rattle.std.specs.Str.{bytes_eq}
 use Rattle.std.specs.Prelude.{◌==◌}
-use Rattle.std.proofs.lemmas.Bool.{and_parts, cases_Bool, false≢true}
+use Rattle.std.proofs.lemmas.Bool.{and_parts, cases_Bool, false≢true, or_cases, or_parts}
 use Rattle.std.proofs.lemmas.Slice.Eq.{bytes_eq-Decides}
 use Rattle.dbpl_base.specs.Spelling.{IsIdentifier, IsRow}
 use Rattle.dbpl_base.specs.Words.{is_blank, is_digit, is_letter, is_word_byte, reserved_words, signs}
@@ -19,21 +19,24 @@ row_passes test (w ∷ ws) zero word all is =
 row_passes test (w ∷ ws) (suc row) word all is =
     row_passes test ws row word (and_parts (test w) (list_all test ws) all).1 is
 
--- a word stands in a table, or doesn't
+-- a word that a test finds in a table stands there
+pub row_found : (table : List (List ℕ)) (word : List ℕ) → list_any (λ w. bytes_eq w word) table ≡ true → (row : ℕ) × IsRow table row word
+row_found [] word e = absurd (false≢true e)
+row_found (w ∷ ws) word e =
+    elim (or_cases (bytes_eq w word) (list_any (λ w. bytes_eq w word) ws) e) [ inl here ↦ (zero, rw ((bytes_eq-Decides w word).0 here) refl) | inr later ↦ (let found = row_found ws word later in (suc found.0, found.1)) ]
+
+-- and one that it doesn't find stands in no row
+pub no_row : (table : List (List ℕ)) (word : List ℕ) → list_any (λ w. bytes_eq w word) table ≡ false → (row : ℕ) → IsRow table row word → ⊥
+no_row [] word e row is = let none : None ≡ Some word = is in absurd cc
+no_row (w ∷ ws) word e zero is =
+    let same : Some w ≡ Some word = is in
+    false≢true (sym (or_parts (bytes_eq w word) (list_any (λ w. bytes_eq w word) ws) e).0 ∙ (bytes_eq-Decides w word).1 cc)
+no_row (w ∷ ws) word e (suc row) is =
+    no_row ws word (or_parts (bytes_eq w word) (list_any (λ w. bytes_eq w word) ws) e).1 row is
+
 pub row_or_none : (table : List (List ℕ)) (word : List ℕ) → ((row : ℕ) × IsRow table row word) ⊎ ((row : ℕ) → IsRow table row word → ⊥)
-row_or_none [] word = inr (λ row is. let e : None ≡ Some word = is in absurd cc)
-row_or_none (w ∷ ws) word = row_or_none_at w ws word (bytes_eq w word) refl (row_or_none ws word)
-  where
-    row_or_none_at : (w : List ℕ) (ws : List (List ℕ)) (word : List ℕ) (same : Bool) → bytes_eq w word ≡ same → ((row : ℕ) × IsRow ws row word) ⊎ ((row : ℕ) → IsRow ws row word → ⊥) → ((row : ℕ) × IsRow (w ∷ ws) row word) ⊎ ((row : ℕ) → IsRow (w ∷ ws) row word → ⊥)
-    row_or_none_at w ws word true e later = inl (zero, rw ((bytes_eq-Decides w word).0 e) refl)
-    row_or_none_at w ws word false e (inl found) = inl (suc found.0, found.1)
-    row_or_none_at w ws word false e (inr none_later) = inr (neither w ws word e none_later)
-      where
-        neither : (w : List ℕ) (ws : List (List ℕ)) (word : List ℕ) → bytes_eq w word ≡ false → ((row : ℕ) → IsRow ws row word → ⊥) → (row : ℕ) → IsRow (w ∷ ws) row word → ⊥
-        neither w ws word e none_later zero is =
-            let same : Some w ≡ Some word = is in
-            false≢true (sym e ∙ (bytes_eq-Decides w word).1 cc)
-        neither w ws word e none_later (suc row) is = none_later row is
+row_or_none table word =
+    elim (cases_Bool (list_any (λ w. bytes_eq w word) table)) [ inl e ↦ inl (row_found table word e) | inr e ↦ inr (no_row table word e) ]
 
 -- ---- reserved words
 
