@@ -1,3 +1,4 @@
+pub mod FixedWords
 pub mod Front
 pub mod Leads
 pub mod NameLaw
@@ -5,6 +6,7 @@ pub mod PlaceLaw
 pub mod Runs
 pub mod Signs
 pub mod Spellings
+pub mod StatementLaw
 pub mod Strings
 pub mod Tables
 pub mod Takes

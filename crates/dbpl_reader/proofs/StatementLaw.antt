@@ -1,0 +1,160 @@
+-- Statements at the front of a text: what is read is what stands there.
+use Rattle.std.proofs.Common.{◌≡◌, ◌≢◌, ℕ, zero, suc, ◌+◌, ◌≤◌, ◌<◌, Bool, true, false, List, [], ◌∷◌, ◌++◌, length, refl, sym, ap, ◌∙◌, subst, Option, Some, None, arith, le_refl, append_assoc}
+use Rattle.std.specs.Prelude.{option_map}
+use Rattle.dbpl_base.specs.declared.lexeme.Lexeme.{Lexeme}
+use Rattle.dbpl_base.specs.declared.lexeme.Lexeme.TheVariants.{Ident, Text}
+use Rattle.dbpl_tree.specs.Program.{spell_statement, spell_statements}
+use Rattle.dbpl_tree.specs.Words.{left_parenthesis, right_parenthesis, semicolon, write_ln, write_string}
+use Rattle.dbpl_tree.specs.declared.statement.Statement.{Statement}
+use Rattle.dbpl_tree.specs.declared.statement.Statement.TheVariants.{WriteLn, WriteString}
+use Rattle.dbpl_reader.specs.Statements.{going_on, statement, statement_or, statements, statements_up_to, with_first, write_string_in}
+use Rattle.dbpl_reader.specs.Steps.{◌>>=◌}
+use Rattle.dbpl_reader.specs.Tokens.{quoted, sign, word}
+use Rattle.dbpl_reader.proofs.FixedWords.{takes_left, takes_right, takes_semicolon, takes_write_ln, takes_write_string}
+use Rattle.dbpl_reader.proofs.Front.{Stands, stands_shorter}
+use Rattle.dbpl_reader.proofs.Leads.{Leads, first_step, leads_append, leads_shorter, leads_split}
+use Rattle.dbpl_reader.proofs.Strings.{quoted-stands, stands_quoted}
+use Rattle.dbpl_reader.proofs.Words.{word_other}
+
+-- ---- one statement
+
+write_string_in-leads : (text string rest : List ℕ) → Leads text (spell_statement (WriteString string)) rest → write_string_in text ≡ Some (string, rest)
+unfolding write_string_in
+write_string_in-leads text string rest h =
+    let name = takes_write_string.there text h.0 h.1 in
+    let left = takes_left.there h.0 h.2.0 h.2.1 in
+    let inside = quoted-stands h.2.0 string h.2.2.0 h.2.2.1 in
+    let right = takes_right.there h.2.2.0 h.2.2.2.0 h.2.2.2.1 in
+    rw (name, left, inside, right, h.2.2.2.2) refl
+
+leads_write_string_in : (text string rest : List ℕ) → write_string_in text ≡ Some (string, rest) → Leads text (spell_statement (WriteString string)) rest
+unfolding write_string_in
+leads_write_string_in text string rest e =
+    let name = first_step (word write_string text) _ (string, rest) e in
+    let left = first_step (sign 40 name.0) _ (string, rest) name.2 in
+    let inside = first_step (quoted left.0) _ (string, rest) left.2 in
+    let right = first_step (sign 41 inside.0.1) _ (string, rest) inside.2 in
+    let pair : Some (inside.0.0, right.0) ≡ Some (string, rest) = right.2 in
+    let same : (inside.0.0, right.0) ≡ (string, rest) = cc in
+    let is : inside.0.0 ≡ string = ap (λ (p : List ℕ × List ℕ). p.0) same in
+    let after : right.0 ≡ rest = ap (λ (p : List ℕ × List ℕ). p.1) same in
+    let quote = rw is at (stands_quoted left.0 inside.0.0 inside.0.1 inside.1) in
+    (name.0, takes_write_string.back text name.0 name.1, (left.0, takes_left.back name.0 left.0 left.1, (inside.0.1, quote, (right.0, takes_right.back inside.0.1 right.0 right.1, after))))
+
+write_ln_differs : write_string ≢ write_ln
+unfolding write_ln write_string
+write_ln_differs e = cc
+
+-- a statement that stands at the front is read
+pub statement-leads : (s : Statement) (text rest : List ℕ) → Leads text (spell_statement s) rest → statement text ≡ Some (s, rest)
+unfolding statement
+statement-leads WriteLn text rest h = rw (takes_write_ln.there text h.0 h.1, h.2) refl
+statement-leads (WriteString string) text rest h =
+    let name = takes_write_string.there text h.0 h.1 in
+    rw (word_other write_string write_ln text h.0 name write_ln_differs, write_string_in-leads text string rest h) refl
+
+statement_found : (text : List ℕ) (s : Statement) (rest : List ℕ) (line : Option (List ℕ)) (string : Option (List ℕ × List ℕ)) → word write_ln text ≡ line → write_string_in text ≡ string → statement_or line string ≡ Some (s, rest) → Leads text (spell_statement s) rest
+statement_found text s rest (Some after) string line_is string_is e =
+    let pair : Some (WriteLn, after) ≡ Some (s, rest) = e in
+    let same : (WriteLn, after) ≡ (s, rest) = cc in
+    let is : WriteLn ≡ s = ap (λ (p : Statement × List ℕ). p.0) same in
+    let behind : after ≡ rest = ap (λ (p : Statement × List ℕ). p.1) same in
+    subst (λ (read : Statement). Leads text (spell_statement read) rest) is (after, takes_write_ln.back text after line_is, behind)
+statement_found text s rest None (Some read) line_is string_is e =
+    let pair : Some (WriteString read.0, read.1) ≡ Some (s, rest) = e in
+    let same : (WriteString read.0, read.1) ≡ (s, rest) = cc in
+    let is : WriteString read.0 ≡ s = ap (λ (p : Statement × List ℕ). p.0) same in
+    let behind : read.1 ≡ rest = ap (λ (p : Statement × List ℕ). p.1) same in
+    subst (λ (written : Statement). Leads text (spell_statement written) rest) is (subst (λ (after : List ℕ). Leads text (spell_statement (WriteString read.0)) after) behind (leads_write_string_in text read.0 read.1 string_is))
+statement_found text s rest None None line_is string_is e = absurd cc
+
+-- what is read is a statement that stands at the front
+pub leads_statement : (s : Statement) (text rest : List ℕ) → statement text ≡ Some (s, rest) → Leads text (spell_statement s) rest
+unfolding statement
+leads_statement s text rest e = statement_found text s rest (word write_ln text) (write_string_in text) refl refl e
+
+-- a statement takes at least one byte
+pub statement_shorter : (s : Statement) (text rest : List ℕ) → Leads text (spell_statement s) rest → length rest < length text
+statement_shorter WriteLn text rest h = leads_shorter (Ident write_ln) [] text rest h
+statement_shorter (WriteString string) text rest h =
+    leads_shorter (Ident write_string) (left_parenthesis ∷ Text string ∷ right_parenthesis ∷ []) text rest h
+
+-- ---- statements
+
+-- statements that stand at the front, without a semicolon behind them, are read if there is turn enough
+statements_up_to-leads : (most : ℕ) (ss : List Statement) (text rest : List ℕ) → ss ≢ [] → length text ≤ most → Leads text (spell_statements ss) rest → sign 59 rest ≡ None → statements_up_to most text ≡ Some (ss, rest)
+statements_up_to-leads zero [] text rest some enough h end = absurd (some refl)
+statements_up_to-leads zero (s ∷ []) text rest some enough h end =
+    let shorter = statement_shorter s text rest h in
+    absurd (omega arith)
+statements_up_to-leads zero (s ∷ next ∷ ss) text rest some enough h end =
+    let parts = leads_split (spell_statement s) (semicolon ∷ spell_statements (next ∷ ss)) text rest h in
+    let shorter = statement_shorter s text parts.0 parts.1 in
+    absurd (omega arith)
+statements_up_to-leads (suc most) [] text rest some enough h end = absurd (some refl)
+statements_up_to-leads (suc most) (s ∷ []) text rest some enough h end =
+    rw (statement-leads s text rest h, end) refl
+statements_up_to-leads (suc most) (s ∷ next ∷ ss) text rest some enough h end =
+    let parts = leads_split (spell_statement s) (semicolon ∷ spell_statements (next ∷ ss)) text rest h in
+    let shorter = statement_shorter s text parts.0 parts.1 in
+    let again = stands_shorter parts.0 semicolon parts.2.0 parts.2.1 in
+    let more = takes_semicolon.there parts.0 parts.2.0 parts.2.1 in
+    let some_more : next ∷ ss ≢ [] = λ none. (let same : next ∷ ss ≡ [] = none in cc) in
+    let later = statements_up_to-leads most (next ∷ ss) parts.2.0 rest some_more (omega arith) parts.2.2 end in
+    rw (statement-leads s text parts.0 parts.1, more, later) refl
+
+-- statements stand at the front, without a semicolon behind them
+pub record LeadStatements (text : List ℕ) (ss : List Statement) (rest : List ℕ) : Type 0 where
+  pub some : ss ≢ []
+  pub leads : Leads text (spell_statements ss) rest
+  pub end : sign 59 rest ≡ None
+
+one_statement : (s : Statement) (text rest : List ℕ) → statement text ≡ Some (s, rest) → sign 59 rest ≡ None → LeadStatements text (s ∷ []) rest
+one_statement s text rest e end = record {
+  some = λ none. (let same : s ∷ [] ≡ [] = none in cc);
+  leads = leads_statement s text rest e;
+  end = end
+}
+
+more_statements : (s : Statement) (text middle after : List ℕ) (ss : List Statement) (rest : List ℕ) → statement text ≡ Some (s, middle) → sign 59 middle ≡ Some after → LeadStatements after ss rest → LeadStatements text (s ∷ ss) rest
+more_statements s text middle after [] rest e more later = absurd (later.some refl)
+more_statements s text middle after (next ∷ ss) rest e more later = record {
+  some = λ none. (let same : s ∷ next ∷ ss ≡ [] = none in cc);
+  leads = leads_append (spell_statement s) (semicolon ∷ spell_statements (next ∷ ss)) text middle rest (leads_statement s text middle e) (after, takes_semicolon.back middle after more, later.leads);
+  end = later.end
+}
+
+-- what is read stands at the front
+leads_statements_up_to : (most : ℕ) (ss : List Statement) (text rest : List ℕ) → statements_up_to most text ≡ Some (ss, rest) → LeadStatements text ss rest
+leads_statements_up_to zero ss text rest e = absurd (let none : None ≡ Some (ss, rest) = e in cc)
+leads_statements_up_to (suc most) ss text rest e =
+    let step = first_step (statement text) _ (ss, rest) e in
+    after_first most (leads_statements_up_to most) step.0 ss text rest step.1 (sign 59 step.0.1) refl step.2
+  where
+    with_others : (first : Statement × List ℕ) (others : Option (List Statement × List ℕ)) (ss : List Statement) (rest : List ℕ) → with_first first.0 others ≡ Some (ss, rest) → (more : List Statement) × (others ≡ Some (more, rest)) × (first.0 ∷ more ≡ ss)
+    with_others first None ss rest e = absurd (let none : None ≡ Some (ss, rest) = e in cc)
+    with_others first (Some others) ss rest e =
+        let pair : Some (first.0 ∷ others.0, others.1) ≡ Some (ss, rest) = e in
+        let same : (first.0 ∷ others.0, others.1) ≡ (ss, rest) = cc in
+        (others.0, rw (← (ap (λ (p : List Statement × List ℕ). p.1) same)) refl, ap (λ (p : List Statement × List ℕ). p.0) same)
+    after_first : (most : ℕ) → ((ss : List Statement) (text rest : List ℕ) → statements_up_to most text ≡ Some (ss, rest) → LeadStatements text ss rest) → (first : Statement × List ℕ) (ss : List Statement) (text rest : List ℕ) → statement text ≡ Some first → (more : Option (List ℕ)) → sign 59 first.1 ≡ more → going_on first (option_map (λ rest. statements_up_to most rest) more) ≡ Some (ss, rest) → LeadStatements text ss rest
+    after_first most later first ss text rest is None ends e =
+        let pair : Some (first.0 ∷ [], first.1) ≡ Some (ss, rest) = e in
+        let same : (first.0 ∷ [], first.1) ≡ (ss, rest) = cc in
+        let one = one_statement first.0 text first.1 is ends in
+        subst (λ (read : List Statement × List ℕ). LeadStatements text read.0 read.1) same one
+    after_first most later first ss text rest is (Some after) goes e =
+        let found = with_others first (statements_up_to most after) ss rest e in
+        let all = more_statements first.0 text first.1 after found.0 rest is goes (later found.0 after rest found.1) in
+        subst (λ (read : List Statement). LeadStatements text read rest) found.2 all
+
+-- ---- the law
+
+pub statements-leads : (ss : List Statement) (text rest : List ℕ) → LeadStatements text ss rest → statements text ≡ Some (ss, rest)
+unfolding statements
+statements-leads ss text rest h =
+    statements_up_to-leads (length text) ss text rest h.some (le_refl (length text)) h.leads h.end
+
+pub leads_statements : (ss : List Statement) (text rest : List ℕ) → statements text ≡ Some (ss, rest) → LeadStatements text ss rest
+unfolding statements
+leads_statements ss text rest e = leads_statements_up_to (length text) ss text rest e
