@@ -124,27 +124,29 @@ more_statements s text middle after (next ∷ ss) rest e more later = record {
   end = later.end
 }
 
+with_first_found : (first : Statement) (others : Option (List Statement × List ℕ)) (ss : List Statement) (rest : List ℕ) → with_first first others ≡ Some (ss, rest) → (more : List Statement) × (others ≡ Some (more, rest)) × (first ∷ more ≡ ss)
+with_first_found first None ss rest e = absurd (let none : None ≡ Some (ss, rest) = e in cc)
+with_first_found first (Some others) ss rest e =
+    let pair : Some (first ∷ others.0, others.1) ≡ Some (ss, rest) = e in
+    let same : (first ∷ others.0, others.1) ≡ (ss, rest) = cc in
+    let behind : others.1 ≡ rest = ap (λ (p : List Statement × List ℕ). p.1) same in
+    (others.0, ap (λ (after : List ℕ). Some (others.0, after)) behind, ap (λ (p : List Statement × List ℕ). p.0) same)
+
 -- what is read stands at the front
 leads_statements_up_to : (most : ℕ) (ss : List Statement) (text rest : List ℕ) → statements_up_to most text ≡ Some (ss, rest) → LeadStatements text ss rest
 leads_statements_up_to zero ss text rest e = absurd (let none : None ≡ Some (ss, rest) = e in cc)
 leads_statements_up_to (suc most) ss text rest e =
     let step = first_step (statement text) _ (ss, rest) e in
-    after_first most (leads_statements_up_to most) step.0 ss text rest step.1 (sign 59 step.0.1) refl step.2
+    behind_first most (leads_statements_up_to most) step.0 ss text rest step.1 (sign 59 step.0.1) refl step.2
   where
-    with_others : (first : Statement × List ℕ) (others : Option (List Statement × List ℕ)) (ss : List Statement) (rest : List ℕ) → with_first first.0 others ≡ Some (ss, rest) → (more : List Statement) × (others ≡ Some (more, rest)) × (first.0 ∷ more ≡ ss)
-    with_others first None ss rest e = absurd (let none : None ≡ Some (ss, rest) = e in cc)
-    with_others first (Some others) ss rest e =
-        let pair : Some (first.0 ∷ others.0, others.1) ≡ Some (ss, rest) = e in
-        let same : (first.0 ∷ others.0, others.1) ≡ (ss, rest) = cc in
-        (others.0, rw (← (ap (λ (p : List Statement × List ℕ). p.1) same)) refl, ap (λ (p : List Statement × List ℕ). p.0) same)
-    after_first : (most : ℕ) → ((ss : List Statement) (text rest : List ℕ) → statements_up_to most text ≡ Some (ss, rest) → LeadStatements text ss rest) → (first : Statement × List ℕ) (ss : List Statement) (text rest : List ℕ) → statement text ≡ Some first → (more : Option (List ℕ)) → sign 59 first.1 ≡ more → going_on first (option_map (λ rest. statements_up_to most rest) more) ≡ Some (ss, rest) → LeadStatements text ss rest
-    after_first most later first ss text rest is None ends e =
+    behind_first : (most : ℕ) → ((ss : List Statement) (text rest : List ℕ) → statements_up_to most text ≡ Some (ss, rest) → LeadStatements text ss rest) → (first : Statement × List ℕ) (ss : List Statement) (text rest : List ℕ) → statement text ≡ Some first → (more : Option (List ℕ)) → sign 59 first.1 ≡ more → going_on first (option_map (λ rest. statements_up_to most rest) more) ≡ Some (ss, rest) → LeadStatements text ss rest
+    behind_first most later first ss text rest is None ends e =
         let pair : Some (first.0 ∷ [], first.1) ≡ Some (ss, rest) = e in
         let same : (first.0 ∷ [], first.1) ≡ (ss, rest) = cc in
         let one = one_statement first.0 text first.1 is ends in
         subst (λ (read : List Statement × List ℕ). LeadStatements text read.0 read.1) same one
-    after_first most later first ss text rest is (Some after) goes e =
-        let found = with_others first (statements_up_to most after) ss rest e in
+    behind_first most later first ss text rest is (Some after) goes e =
+        let found = with_first_found first.0 (statements_up_to most after) ss rest e in
         let all = more_statements first.0 text first.1 after found.0 rest is goes (later found.0 after rest found.1) in
         subst (λ (read : List Statement). LeadStatements text read rest) found.2 all
 
@@ -158,3 +160,58 @@ statements-leads ss text rest h =
 pub leads_statements : (ss : List Statement) (text rest : List ℕ) → statements text ≡ Some (ss, rest) → LeadStatements text ss rest
 unfolding statements
 leads_statements ss text rest e = leads_statements_up_to (length text) ss text rest e
+
+-- ---- one statement after another
+
+-- one statement and no semicolon
+pub statements-one : (s : Statement) (text rest : List ℕ) → statement text ≡ Some (s, rest) → sign 59 rest ≡ None → statements text ≡ Some (s ∷ [], rest)
+statements-one s text rest e end = statements-leads (s ∷ []) text rest (one_statement s text rest e end)
+
+-- no statement
+pub statements-none : (text : List ℕ) → statement text ≡ None → statements text ≡ None
+unfolding statements
+statements-none text e = none_up_to (length text) text e
+  where
+    none_up_to : (most : ℕ) (text : List ℕ) → statement text ≡ None → statements_up_to most text ≡ None
+    none_up_to zero text e = refl
+    none_up_to (suc most) text e = rw e refl
+
+same_if_found : {A : Type 0} (one other : Option A) → ((answer : A) → one ≡ Some answer → other ≡ Some answer) → ((answer : A) → other ≡ Some answer → one ≡ Some answer) → one ≡ other
+same_if_found None None h k = refl
+same_if_found None (Some answer) h k = k answer refl
+same_if_found (Some answer) other h k = sym (h answer refl)
+
+-- what is found among so many statements is found by `statements`, behind the first one and its semicolon
+found_behind : (most : ℕ) (s : Statement) (text middle after : List ℕ) (read : List Statement × List ℕ) → statement text ≡ Some (s, middle) → sign 59 middle ≡ Some after → statements_up_to most text ≡ Some read → with_first s (statements after) ≡ Some read
+found_behind zero s text middle after read e more is = absurd (let none : None ≡ Some read = is in cc)
+found_behind (suc most) s text middle after read e more is =
+    let behind : with_first s (statements_up_to most after) ≡ Some read = rw (e, more) at is in
+    let found = with_first_found s (statements_up_to most after) read.0 read.1 behind in
+    let later = leads_statements_up_to most found.0 after read.1 found.1 in
+    rw (statements-leads found.0 after read.1 later) (ap (λ (ss : List Statement). Some (ss, read.1)) found.2)
+
+found_in_front : (s : Statement) (text middle after : List ℕ) (read : List Statement × List ℕ) → statement text ≡ Some (s, middle) → sign 59 middle ≡ Some after → with_first s (statements after) ≡ Some read → statements text ≡ Some read
+found_in_front s text middle after read e more is =
+    let found = with_first_found s (statements after) read.0 read.1 is in
+    let all = more_statements s text middle after found.0 read.1 e more (leads_statements found.0 after read.1 found.1) in
+    rw (statements-leads (s ∷ found.0) text read.1 all) (ap (λ (ss : List Statement). Some (ss, read.1)) found.2)
+
+-- what is read behind one statement and its semicolon
+pub statements-more : (s : Statement) (text middle after : List ℕ) → statement text ≡ Some (s, middle) → sign 59 middle ≡ Some after → statements text ≡ with_first s (statements after)
+unfolding statements
+statements-more s text middle after e more =
+    same_if_found (statements text) (with_first s (statements after)) (λ read is. found_behind (length text) s text middle after read e more is) (λ read is. found_in_front s text middle after read e more is)
+
+-- these statements in front of what is read
+abbrev pub behind : List Statement → Option (List Statement × List ℕ) → Option (List Statement × List ℕ)
+behind front None = None
+behind front (Some read) = Some (front ++ read.0, read.1)
+
+pub behind-nothing : (read : Option (List Statement × List ℕ)) → behind [] read ≡ read
+behind-nothing None = refl
+behind-nothing (Some read) = refl
+
+pub behind-with_first : (front : List Statement) (s : Statement) (read : Option (List Statement × List ℕ)) → behind front (with_first s read) ≡ behind (front ++ s ∷ []) read
+behind-with_first front s None = refl
+behind-with_first front s (Some read) =
+    ap (λ (ss : List Statement). Some (ss, read.1)) (sym (append_assoc front (s ∷ []) read.0))
