@@ -1,6 +1,7 @@
 pub mod FixedWords
 pub mod Front
 pub mod Leads
+pub mod ModuleLaw
 pub mod NameLaw
 pub mod PlaceLaw
 pub mod Runs

@@ -215,3 +215,22 @@ pub behind-with_first : (front : List Statement) (s : Statement) (read : Option 
 behind-with_first front s None = refl
 behind-with_first front s (Some read) =
     ap (λ (ss : List Statement). Some (ss, read.1)) (sym (append_assoc front (s ∷ []) read.0))
+
+-- ---- a turn of the loop, which has read these statements in front, from a text that begins at `start`
+
+pub turn_none : (front : List Statement) (start text : List ℕ) → behind front (statements text) ≡ statements start → statement text ≡ None → statements start ≡ None
+turn_none front start text so_far e = sym so_far ∙ ap (behind front) (statements-none text e)
+
+pub turn_one : (front : List Statement) (start text : List ℕ) (s : Statement) (rest : List ℕ) → behind front (statements text) ≡ statements start → statement text ≡ Some (s, rest) → sign 59 rest ≡ None → statements start ≡ Some (front ++ s ∷ [], rest)
+turn_one front start text s rest so_far e end =
+    sym so_far ∙ ap (behind front) (statements-one s text rest e end)
+
+pub turn_more : (front : List Statement) (start text : List ℕ) (s : Statement) (middle after : List ℕ) → behind front (statements text) ≡ statements start → statement text ≡ Some (s, middle) → sign 59 middle ≡ Some after → behind (front ++ s ∷ []) (statements after) ≡ statements start
+turn_more front start text s middle after so_far e more =
+    sym (behind-with_first front s (statements after)) ∙ sym (ap (behind front) (statements-more s text middle after e more)) ∙ so_far
+
+pub turn_shorter : (text : List ℕ) (s : Statement) (middle after : List ℕ) → statement text ≡ Some (s, middle) → sign 59 middle ≡ Some after → length after < length text
+turn_shorter text s middle after e more =
+    let first = statement_shorter s text middle (leads_statement s text middle e) in
+    let second = stands_shorter middle semicolon after (takes_semicolon.back middle after more) in
+    omega arith
