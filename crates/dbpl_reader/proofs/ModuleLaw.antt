@@ -24,6 +24,7 @@ use Rattle.dbpl_reader.proofs.PlaceLaw.{leads_from_scans, scans_from_leads}
 use Rattle.dbpl_reader.proofs.Runs.{drop_while-append, run-and-rest, run_passes}
 use Rattle.dbpl_reader.proofs.Spellings.{letter_no_sign}
 use Rattle.dbpl_reader.proofs.StatementLaw.{LeadStatements, leads_statements, statements-leads}
+use Rattle.dbpl_reader.proofs.Takes.{parts_found}
 use Rattle.dbpl_reader.proofs.Words.{takes_word}
 
 -- ---- the heading
@@ -57,12 +58,9 @@ leads_heading text name rest e =
     let closed = first_step (sign 59 named.0.1) _ (name, rest) named.2 in
     let imported = first_step (imports closed.0) _ (name, rest) closed.2 in
     let begun = first_step (word (codes "BEGIN") imported.0) _ (name, rest) imported.2 in
-    let pair : Some (named.0.0, begun.0) ≡ Some (name, rest) = begun.2 in
-    let same : (named.0.0, begun.0) ≡ (name, rest) = cc in
-    let is : named.0.0 ≡ name = ap (λ (p : List ℕ × List ℕ). p.0) same in
-    let behind : begun.0 ≡ rest = ap (λ (p : List ℕ × List ℕ). p.1) same in
-    let names = rw is at (stands_module_name first.0 named.0.0 named.0.1 named.1) in
-    let last : Leads imported.0 (word_begin ∷ []) rest = (begun.0, takes_begin.back imported.0 begun.0 begun.1, behind) in
+    let same = parts_found named.0.0 name begun.0 rest begun.2 in
+    let names = rw same.0 at (stands_module_name first.0 named.0.0 named.0.1 named.1) in
+    let last : Leads imported.0 (word_begin ∷ []) rest = (begun.0, takes_begin.back imported.0 begun.0 begun.1, same.1) in
     let others = leads_append imports_lexemes (word_begin ∷ []) closed.0 imported.0 rest (takes_imports.back closed.0 imported.0 imported.1) last in
     (names.0, (first.0, takes_module.back text first.0 first.1, (named.0.1, names.1, (closed.0, takes_semicolon.back named.0.1 closed.0 closed.1, others))))
 
@@ -115,15 +113,15 @@ leads_first_module program text rest e =
     let name = headed.0.0 in
     let ss = said.0.0 in
     let read : Program = record { name = name; statements = ss } in
-    let pair : Some (read, ended.0) ≡ Some (program, rest) = ended.2 in
-    let same : (read, ended.0) ≡ (program, rest) = cc in
+    let same = parts_found read program ended.0 rest ended.2 in
     let top = leads_heading text name headed.0.1 headed.1 in
     let body = leads_statements ss headed.0.1 said.0.1 said.1 in
     let last = (takes_ending name top.0).back said.0.1 ended.0 ended.1 in
     let upper = leads_append (spell_heading name) (spell_statements ss) text headed.0.1 said.0.1 top.1 body.leads in
     let whole = leads_append (spell_heading name ++ spell_statements ss) (ending_lexemes name) text said.0.1 ended.0 upper last in
     let small : IsSmall read = record { named = top.0; some = body.some } in
-    subst (λ (p : Program × List ℕ). IsSmall p.0 × Leads text (module_lexemes p.0) p.1) same (small, whole)
+    let led = subst (λ (after : List ℕ). Leads text (module_lexemes read) after) same.1 whole in
+    subst (λ (found : Program). IsSmall found × Leads text (module_lexemes found) rest) same.0 (small, led)
 
 -- ---- the text as a whole
 
@@ -159,3 +157,25 @@ pub program_read : (text : List ℕ) (program : Program) → SpellsProgram 0 tex
 program_read text program h =
     let led = leads_from_scans (module_lexemes program) (start_of 0) text h.tokens h.scanned (h.spelt ∙ sym (spell-module program)) in
     (led.0, first_module-leads program text led.0 h.small led.1, blanks_left led.0 led.2)
+
+-- ---- what `read` answers
+
+-- no other module is spelled
+pub read_only : (text : List ℕ) (program : Program) (rest : List ℕ) → first_module text ≡ Some (program, rest) → (other : Program) → SpellsProgram 0 text other → other ≡ program
+read_only text program rest e other h =
+    let read = program_read text other h in
+    (parts_found other program read.0 rest (sym read.1 ∙ e)).0
+
+-- where no module is read, none is spelled
+pub read_none : (text : List ℕ) → first_module text ≡ None → (program : Program) → SpellsProgram 0 text program → ⊥
+read_none text e program h =
+    let read = program_read text program h in
+    let none : ◌≡◌ {A = Option (Program × List ℕ)} None (Some (program, read.0)) = sym e ∙ read.1 in
+    cc
+
+-- where more than blanks is left behind the module, none is spelled
+pub read_left : (text : List ℕ) (program : Program) (rest : List ℕ) → first_module text ≡ Some (program, rest) → (after_blanks rest ≡ [] → ⊥) → (other : Program) → SpellsProgram 0 text other → ⊥
+read_left text program rest e left other h =
+    let read = program_read text other h in
+    let same = parts_found other program read.0 rest (sym read.1 ∙ e) in
+    left (subst (λ (behind : List ℕ). after_blanks behind ≡ []) same.1 read.2)

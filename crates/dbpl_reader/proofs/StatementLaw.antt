@@ -14,6 +14,7 @@ use Rattle.dbpl_reader.proofs.FixedWords.{takes_left, takes_right, takes_semicol
 use Rattle.dbpl_reader.proofs.Front.{Stands, stands_shorter}
 use Rattle.dbpl_reader.proofs.Leads.{Leads, first_step, leads_append, leads_shorter, leads_split}
 use Rattle.dbpl_reader.proofs.Strings.{quoted-stands, stands_quoted}
+use Rattle.dbpl_reader.proofs.Takes.{parts_found}
 use Rattle.dbpl_reader.proofs.Words.{word_other}
 
 -- ---- one statement
@@ -34,12 +35,9 @@ leads_write_string_in text string rest e =
     let left = first_step (sign 40 name.0) _ (string, rest) name.2 in
     let inside = first_step (quoted left.0) _ (string, rest) left.2 in
     let right = first_step (sign 41 inside.0.1) _ (string, rest) inside.2 in
-    let pair : Some (inside.0.0, right.0) ≡ Some (string, rest) = right.2 in
-    let same : (inside.0.0, right.0) ≡ (string, rest) = cc in
-    let is : inside.0.0 ≡ string = ap (λ (p : List ℕ × List ℕ). p.0) same in
-    let after : right.0 ≡ rest = ap (λ (p : List ℕ × List ℕ). p.1) same in
-    let quote = rw is at (stands_quoted left.0 inside.0.0 inside.0.1 inside.1) in
-    (name.0, takes_write_string.back text name.0 name.1, (left.0, takes_left.back name.0 left.0 left.1, (inside.0.1, quote, (right.0, takes_right.back inside.0.1 right.0 right.1, after))))
+    let same = parts_found inside.0.0 string right.0 rest right.2 in
+    let quote = rw same.0 at (stands_quoted left.0 inside.0.0 inside.0.1 inside.1) in
+    (name.0, takes_write_string.back text name.0 name.1, (left.0, takes_left.back name.0 left.0 left.1, (inside.0.1, quote, (right.0, takes_right.back inside.0.1 right.0 right.1, same.1))))
 
 write_ln_differs : write_string ≢ write_ln
 unfolding write_ln write_string
@@ -55,17 +53,12 @@ statement-leads (WriteString string) text rest h =
 
 statement_found : (text : List ℕ) (s : Statement) (rest : List ℕ) (line : Option (List ℕ)) (string : Option (List ℕ × List ℕ)) → word write_ln text ≡ line → write_string_in text ≡ string → statement_or line string ≡ Some (s, rest) → Leads text (spell_statement s) rest
 statement_found text s rest (Some after) string line_is string_is e =
-    let pair : Some (WriteLn, after) ≡ Some (s, rest) = e in
-    let same : (WriteLn, after) ≡ (s, rest) = cc in
-    let is : WriteLn ≡ s = ap (λ (p : Statement × List ℕ). p.0) same in
-    let behind : after ≡ rest = ap (λ (p : Statement × List ℕ). p.1) same in
-    subst (λ (read : Statement). Leads text (spell_statement read) rest) is (after, takes_write_ln.back text after line_is, behind)
+    let same = parts_found WriteLn s after rest e in
+    subst (λ (read : Statement). Leads text (spell_statement read) rest) same.0 (after, takes_write_ln.back text after line_is, same.1)
 statement_found text s rest None (Some read) line_is string_is e =
-    let pair : Some (WriteString read.0, read.1) ≡ Some (s, rest) = e in
-    let same : (WriteString read.0, read.1) ≡ (s, rest) = cc in
-    let is : WriteString read.0 ≡ s = ap (λ (p : Statement × List ℕ). p.0) same in
-    let behind : read.1 ≡ rest = ap (λ (p : Statement × List ℕ). p.1) same in
-    subst (λ (written : Statement). Leads text (spell_statement written) rest) is (subst (λ (after : List ℕ). Leads text (spell_statement (WriteString read.0)) after) behind (leads_write_string_in text read.0 read.1 string_is))
+    let same = parts_found (WriteString read.0) s read.1 rest e in
+    let written = leads_write_string_in text read.0 read.1 string_is in
+    subst (λ (written : Statement). Leads text (spell_statement written) rest) same.0 (subst (λ (after : List ℕ). Leads text (spell_statement (WriteString read.0)) after) same.1 written)
 statement_found text s rest None None line_is string_is e = absurd cc
 
 -- what is read is a statement that stands at the front
@@ -127,10 +120,8 @@ more_statements s text middle after (next ∷ ss) rest e more later = record {
 with_first_found : (first : Statement) (others : Option (List Statement × List ℕ)) (ss : List Statement) (rest : List ℕ) → with_first first others ≡ Some (ss, rest) → (more : List Statement) × (others ≡ Some (more, rest)) × (first ∷ more ≡ ss)
 with_first_found first None ss rest e = absurd (let none : None ≡ Some (ss, rest) = e in cc)
 with_first_found first (Some others) ss rest e =
-    let pair : Some (first ∷ others.0, others.1) ≡ Some (ss, rest) = e in
-    let same : (first ∷ others.0, others.1) ≡ (ss, rest) = cc in
-    let behind : others.1 ≡ rest = ap (λ (p : List Statement × List ℕ). p.1) same in
-    (others.0, ap (λ (after : List ℕ). Some (others.0, after)) behind, ap (λ (p : List Statement × List ℕ). p.0) same)
+    let same = parts_found (first ∷ others.0) ss others.1 rest e in
+    (others.0, ap (λ (after : List ℕ). Some (others.0, after)) same.1, same.0)
 
 -- what is read stands at the front
 leads_statements_up_to : (most : ℕ) (ss : List Statement) (text rest : List ℕ) → statements_up_to most text ≡ Some (ss, rest) → LeadStatements text ss rest
@@ -141,10 +132,9 @@ leads_statements_up_to (suc most) ss text rest e =
   where
     behind_first : (most : ℕ) → ((ss : List Statement) (text rest : List ℕ) → statements_up_to most text ≡ Some (ss, rest) → LeadStatements text ss rest) → (first : Statement × List ℕ) (ss : List Statement) (text rest : List ℕ) → statement text ≡ Some first → (more : Option (List ℕ)) → sign 59 first.1 ≡ more → going_on first (option_map (λ rest. statements_up_to most rest) more) ≡ Some (ss, rest) → LeadStatements text ss rest
     behind_first most later first ss text rest is None ends e =
-        let pair : Some (first.0 ∷ [], first.1) ≡ Some (ss, rest) = e in
-        let same : (first.0 ∷ [], first.1) ≡ (ss, rest) = cc in
+        let same = parts_found (first.0 ∷ []) ss first.1 rest e in
         let one = one_statement first.0 text first.1 is ends in
-        subst (λ (read : List Statement × List ℕ). LeadStatements text read.0 read.1) same one
+        rw (same.0, same.1) at one
     behind_first most later first ss text rest is (Some after) goes e =
         let found = with_first_found first.0 (statements_up_to most after) ss rest e in
         let all = more_statements first.0 text first.1 after found.0 rest is goes (later found.0 after rest found.1) in

@@ -11,7 +11,7 @@ use Rattle.dbpl_reader.specs.Tokens.{after_blanks, closed, drop_while, is_text_b
 use Rattle.dbpl_reader.proofs.Front.{Stands, after_blanks-stands, begins_no_comment, stands_after_blanks}
 use Rattle.dbpl_reader.proofs.Runs.{Stops, drop_while-append, run-and-rest, run_passes, take_while-append}
 use Rattle.dbpl_reader.proofs.Spellings.{is_quote, quote_parts, quote_word}
-use Rattle.dbpl_reader.proofs.Takes.{found_under}
+use Rattle.dbpl_reader.proofs.Takes.{found_under, parts_found}
 
 quote_stops : (quote : ℕ) (rest : List ℕ) → Stops (is_text_byte quote) (quote ∷ rest)
 quote_stops quote rest = rw (eq-eqb quote quote refl) refl
@@ -42,8 +42,8 @@ closed_found : (quote : ℕ) (inside behind text rest : List ℕ) → closed quo
 closed_found quote inside [] text rest e = absurd (let none : None ≡ Some (text, rest) = e in cc)
 closed_found quote inside (last ∷ others) text rest e =
     let found = found_under (last == quote) (inside, others) (text, rest) e in
-    let same = eqb-true last quote found.0 in
-    (ap (λ (pair : List ℕ × List ℕ). pair.0) found.1, rw same (ap (λ (pair : List ℕ × List ℕ). quote ∷ pair.1) found.1))
+    let same = parts_found inside text others rest (ap (λ (pair : List ℕ × List ℕ). Some pair) found.1) in
+    (same.0, rw (eqb-true last quote found.0, same.1) refl)
 
 -- what is read at the front is a quote, the text and the quote again
 pub record ReadsString (front text rest : List ℕ) : Type 0 where
