@@ -1,14 +1,8 @@
 -- The counts of a world, which never fall, and which of them a call may raise.
 use Rattle.std.specs.Prelude.{◌≡◌, ℕ, ◌+◌, ◌-◌, ◌^◌, ◌≤◌, min}
+pub use Rattle.dbpl_world.specs.declared.counts.Counts.{Counts}
 use Rattle.dbpl_world.specs.declared.part.Part.{Part}
 use Rattle.dbpl_world.specs.declared.part.Part.TheVariants.{Log, Pages}
-
-pub record Counts : Type 0 where
-  pub take_faults : ℕ
-  pub say_faults : ℕ
-  pub note_faults : ℕ
-  pub disk_faults : ℕ
-  pub page_reads : ℕ
 
 -- A count of 64 bits has risen, or stands at its last value.
 abbrev pub Rose : ℕ → ℕ → Type 0

@@ -1,3 +1,6 @@
+pub mod Budget
+pub mod CallRecord
+pub mod Calls
 pub mod Counts
 pub mod Files
 pub mod History

@@ -2,14 +2,20 @@
 //! from. A world tells its history; what a stop may leave is defined over it.
 #![tactic(auto)]
 
+mod budget;
+mod call_record;
+mod counts;
 mod failed;
+mod made_call;
 mod mount_err;
 mod no_memory;
 mod outside;
 mod part;
 mod shelf;
 mod shelf_err;
+mod store_bytes;
 
+pub use counts::Counts;
 pub use failed::Failed;
 pub use mount_err::MountErr;
 pub use no_memory::NoMemory;
