@@ -5,4 +5,6 @@ pub mod Counts
 pub mod Files
 pub mod History
 pub mod Images
+pub mod InMemory
 pub mod Moments
+pub mod Tied

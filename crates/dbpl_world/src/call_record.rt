@@ -1,6 +1,8 @@
 // The record of a world in memory. Its bytes are exactly those that its calls moved.
-ghost use Rattle.std.specs.Prelude.{◌≡◌, ◌+◌, ◌<◌, ◌≤◌, ◌++◌, length, vec_len, vec_capacity};
+ghost use Rattle.std.specs.Prelude.{◌≡◌, ◌+◌, ◌*◌, ◌<◌, ◌≤◌, ◌++◌, [], length, IfOk, vec_len, vec_capacity};
 ghost use Rattle.dbpl_world.specs.Calls.{bytes_of, events_of, total_bytes};
+
+use std::alloc::{AllocError, Global};
 
 use crate::made_call::MadeCall;
 
@@ -13,6 +15,18 @@ pub struct CallRecord {
 
 impl CallRecord {
     ghost use Rattle.dbpl_world.specs.CallRecord.{events_recorded};
+
+    /// An empty record with room for calls that cost so much together.
+    pub fn new(alloc: Global, room: usize) -> Result<CallRecord, AllocError>
+        ensures events { IfOk result (λ recorded. events_recorded recorded ≡ []) }
+        ensures calls { IfOk result (λ recorded. (vec_len recorded.calls ≡ 0) × (room ≤ 64 * vec_capacity recorded.calls)) }
+        ensures bytes { IfOk result (λ recorded. (vec_len recorded.bytes ≡ 0) × (room ≤ vec_capacity recorded.bytes)) }
+    {
+        Ok(CallRecord {
+            calls: Vec::with_capacity(alloc, room / 64 + 1)?,
+            bytes: Vec::with_capacity(alloc, room)?,
+        })
+    }
 
     /// Records one more call. There is room for it.
     pub fn keep(&mut self, made: MadeCall, bytes: &[u8])

@@ -7,6 +7,7 @@ mod call_record;
 mod counts;
 mod failed;
 mod made_call;
+mod memory_world;
 mod mount_err;
 mod no_memory;
 mod outside;
@@ -17,6 +18,7 @@ mod store_bytes;
 
 pub use counts::Counts;
 pub use failed::Failed;
+pub use memory_world::MemoryWorld;
 pub use mount_err::MountErr;
 pub use no_memory::NoMemory;
 pub use outside::World;
