@@ -1,2 +1,4 @@
+pub mod Images
 pub mod Recorded
+pub mod Replays
 pub mod Standing

@@ -1,5 +1,5 @@
 -- Which calls of a world in memory fail.
-use Rattle.std.specs.Prelude.{◌≡◌, ℕ, ◌+◌, ◌-◌, ◌^◌, ◌<◌, ◌≤◌, min, ◌⊎◌, List, Contains}
+use Rattle.std.specs.Prelude.{ℕ, ◌+◌, ◌-◌, ◌^◌, ◌<◌, ◌≤◌, min, ◌⊎◌, List, Contains}
 use Rattle.dbpl_world.specs.declared.budget.Budget.{Budget}
 
 -- the numbers of the calls that fail, the number of the next call, and what is left of the room

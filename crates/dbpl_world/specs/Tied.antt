@@ -1,7 +1,7 @@
 -- What a world in memory holds for its calls, and that it agrees with what its history says.
-use Rattle.std.specs.Prelude.{◌≡◌, ℕ, List, [], ◌∷◌, take, fold, bytes_eq, Option, Some, None, if◌then◌else◌}
+use Rattle.std.specs.Prelude.{◌≡◌, ℕ, List, [], take, fold, bytes_eq, Option, Some, None, if◌then◌else◌}
 use Rattle.dbpl_world.specs.declared.store_bytes.StoreBytes.{StoreBytes}
-use Rattle.dbpl_world.specs.History.{Store, settled_store, State, store_of, Event, History, now}
+use Rattle.dbpl_world.specs.History.{Store, settled_store, State, store_of, Event, History, AllReadAnImage}
 
 -- the log and the pages of the last store of that name, or two empty parts
 abbrev pub newest : List StoreBytes → List ℕ → List ℕ × List ℕ
@@ -36,3 +36,4 @@ pub record IsTied (s : State) (mounted : Option (List ℕ)) (input said noted lo
   pub log_is : s.disk.log.now ≡ log
   pub pages_is : s.disk.pages.now ≡ pages
   pub stores_are : (name : List ℕ) → reads_of (store_of s name) ≡ contents_of mounted (log, pages) stores name
+  pub images_are : AllReadAnImage s

@@ -1,9 +1,8 @@
 // Which calls of a world in memory fail: those whose number is listed, and those that pass the room.
 ghost use Rattle.std.specs.Prelude.{◌≡◌, ◌+◌, ◌≤◌, ◌↔◌, IsTrue, MatchBool, IfOk, if◌then◌else◌};
 
-use std::alloc::{AllocError, Global};
-
 use crate::counts::raised;
+use std::alloc::{AllocError, Global};
 
 #[derive(Debug, Drop)]
 pub struct Budget {
@@ -40,7 +39,11 @@ impl Budget {
         ensures charged { rule_of self.new ≡ after_call (rule_of self.old) (if result then gap + count else 0) }
     {
         let allowed = self.allows(gap, count);
-        let cost = if allowed { 64 + gap as usize + count } else { 64 };
+        let cost = if allowed {
+            64 + gap as usize + count
+        } else {
+            64
+        };
         self.calls = raised(self.calls);
         self.left = self.left.saturating_sub(cost);
         allowed

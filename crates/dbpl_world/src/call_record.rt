@@ -2,9 +2,8 @@
 ghost use Rattle.std.specs.Prelude.{◌≡◌, ◌+◌, ◌*◌, ◌<◌, ◌≤◌, ◌++◌, [], length, IfOk, vec_len, vec_capacity};
 ghost use Rattle.dbpl_world.specs.Calls.{bytes_of, events_of, total_bytes};
 
-use std::alloc::{AllocError, Global};
-
 use crate::made_call::MadeCall;
+use std::alloc::{AllocError, Global};
 
 #[derive(Debug, Drop)]
 pub struct CallRecord {

@@ -12,6 +12,7 @@ mod mount_err;
 mod no_memory;
 mod outside;
 mod part;
+mod part_bytes;
 mod shelf;
 mod shelf_err;
 mod store_bytes;

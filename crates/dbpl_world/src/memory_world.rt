@@ -5,12 +5,11 @@ ghost use Rattle.dbpl_world.specs.History.{now};
 ghost use Rattle.dbpl_world.specs.CallRecord.{events_recorded};
 ghost use Rattle.dbpl_world.specs.Tied.{history_in, IsTied};
 
-use std::alloc::Global;
-
 use crate::budget::Budget;
 use crate::call_record::CallRecord;
 use crate::store_bytes::StoreBytes;
 use crate::{Counts, NoMemory};
+use std::alloc::Global;
 
 mod calls;
 
@@ -51,7 +50,12 @@ impl MemoryWorld {
     ghost use Rattle.dbpl_world.specs.InMemory.{history_of, mounted_in, counts_of, rule_in, fresh_history, with_store};
 
     /// A world with this input and no stores. The calls with the numbers in `fails` fail, and those past `room`.
-    pub fn make(alloc: Global, input: &[u8], fails: &[u64], room: u64) -> Result<MemoryWorld, NoMemory>
+    pub fn make(
+        alloc: Global,
+        input: &[u8],
+        fails: &[u64],
+        room: u64,
+    ) -> Result<MemoryWorld, NoMemory>
         ensures history { IfOk result (λ world. history_of world ≡ fresh_history input.now) }
         ensures mounted { IfOk result (λ world. mounted_in world ≡ None) }
         ensures counts { IfOk result (λ world. counts_of world ≡ record { take_faults = 0; say_faults = 0; note_faults = 0; disk_faults = 0; page_reads = 0 }) }

@@ -1,7 +1,4 @@
-use Rattle.std.proofs.Common.{◌≡◌, List, ◌++◌, ◌∷◌, [], ◌+◌, length, vec_len, rules, arith}
-use Rattle.std.proofs.lemmas.Grind.{common_steps}
-use Rattle.dbpl_world.specs.Calls.{bytes_of, events_of, total_bytes}
-use Rattle.dbpl_world.specs.CallRecord.{events_recorded}
+use Rattle.std.proofs.Common.{◌≡◌, ◌++◌, ◌∷◌, [], ◌+◌, length, vec_len, rules, arith}
 use Rattle.dbpl_world.proofs.Recorded.{total_bytes-append, events_in-append}
 use Rattle.dbpl_world.proofs.call_record.CallRecord.keep.Goals as goal
 
