@@ -1,3 +1,5 @@
+pub mod CountLaws
+pub mod Fronts
 pub mod Images
 pub mod Recorded
 pub mod Replays

@@ -16,6 +16,7 @@ mod part_bytes;
 mod shelf;
 mod shelf_err;
 mod store_bytes;
+mod whole;
 
 pub use counts::Counts;
 pub use failed::Failed;
@@ -26,3 +27,4 @@ pub use outside::World;
 pub use part::Part;
 pub use shelf::Shelf;
 pub use shelf_err::ShelfErr;
+pub use whole::{note_all, say_all};
