@@ -5,6 +5,7 @@ pub mod Counts
 pub mod Files
 pub mod History
 pub mod Images
+pub mod InShelf
 pub mod InMemory
 pub mod Moments
 pub mod Tied

@@ -7,6 +7,7 @@ mod call_record;
 mod counts;
 mod failed;
 mod made_call;
+mod memory_shelf;
 mod memory_world;
 mod mount_err;
 mod no_memory;
@@ -20,6 +21,7 @@ mod whole;
 
 pub use counts::Counts;
 pub use failed::Failed;
+pub use memory_shelf::MemoryShelf;
 pub use memory_world::MemoryWorld;
 pub use mount_err::MountErr;
 pub use no_memory::NoMemory;
