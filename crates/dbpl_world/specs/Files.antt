@@ -1,5 +1,5 @@
 -- The files of a shelf, and what a fetch answers.
-use Rattle.std.specs.Prelude.{◌≡◌, ℕ, ◌<◌, List, [], ◌∷◌, length, bytes_eq, Bool, true, false, Option, Some, None, Result, Ok, Err, if◌then◌else◌}
+use Rattle.std.specs.Prelude.{◌≡◌, ℕ, ◌<◌, List, [], ◌∷◌, length, bytes_eq, Bool, true, false, Option, Some, None, Vec, map, Result, Ok, Err, if◌then◌else◌}
 use Rattle.dbpl_world.specs.declared.shelf_err.ShelfErr.{ShelfErr}
 use Rattle.dbpl_world.specs.declared.shelf_err.ShelfErr.TheVariants.{Failed, TooLong, Memory}
 
@@ -24,3 +24,7 @@ Answers files name limit (Err Memory) bytes = Unit {0}
 abbrev pub Fetches : Option Files → List ℕ → ℕ → Result Bool ShelfErr → List ℕ → Type 0
 Fetches None name limit result bytes = Unit {0}
 Fetches (Some files) name limit result bytes = Answers files name limit result bytes
+
+-- the files that a list of names and bytes holds
+abbrev pub entries : {A : Type 0} → List (Vec ℕ A × Vec ℕ A) → Files
+entries files = map (λ file. (file.0.items, file.1.items)) files

@@ -90,3 +90,8 @@ pub record ReadsAnImage (store : Store) : Type 0 where
 pub record AllReadAnImage (s : State) : Type 0 where
   pub disk : ReadsAnImage s.disk
   pub others : (name : List ℕ) → ReadsAnImage (s.others name)
+
+-- one of two by the part
+abbrev pub by_part : {A : Type 0} → Part → A → A → A
+by_part Log log pages = log
+by_part Pages log pages = pages

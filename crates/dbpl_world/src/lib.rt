@@ -2,18 +2,31 @@
 //! from. A world tells its history; what a stop may leave is defined over it.
 #![tactic(auto)]
 
+mod budget;
+mod call_record;
+mod counts;
 mod failed;
+mod made_call;
+mod memory_shelf;
+mod memory_world;
 mod mount_err;
 mod no_memory;
 mod outside;
 mod part;
+mod part_bytes;
 mod shelf;
 mod shelf_err;
+mod store_bytes;
+mod whole;
 
+pub use counts::Counts;
 pub use failed::Failed;
+pub use memory_shelf::MemoryShelf;
+pub use memory_world::MemoryWorld;
 pub use mount_err::MountErr;
 pub use no_memory::NoMemory;
 pub use outside::World;
 pub use part::Part;
 pub use shelf::Shelf;
 pub use shelf_err::ShelfErr;
+pub use whole::{note_all, say_all};

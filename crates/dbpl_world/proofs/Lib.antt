@@ -1,0 +1,6 @@
+pub mod CountLaws
+pub mod Fronts
+pub mod Images
+pub mod Recorded
+pub mod Replays
+pub mod Standing
