@@ -1,8 +1,8 @@
 -- Bytes that are said piece after piece: a front of a piece behind what came before it is a front of the whole.
-use Rattle.std.proofs.Common.{◌≡◌, ◌∙◌, ℕ, ◌+◌, ◌<◌, ◌≤◌, List, [], ◌∷◌, ◌++◌, ap, append_assoc, add-one, arith, drop, get_or, length, map, min, sym, take}
+use Rattle.std.proofs.Common.{◌≡◌, ◌∙◌, ℕ, ◌+◌, ◌<◌, ◌≤◌, List, ◌∷◌, ◌++◌, ap, append_assoc, add-one, arith, drop, get_or, length, map, min, sym, take}
 use Rattle.std.proofs.Math.Seq.{drop-cons, take-append-add}
 use Rattle.std.proofs.lemmas.Grind.{flat_map-append}
-use Rattle.std.proofs.lemmas.List.{append-nil, map-append, take-append-drop, take-append-le, take_min}
+use Rattle.std.proofs.lemmas.List.{map-append, take-append-drop, take-append-le, take_min}
 use Rattle.std.specs.List.{flat_map}
 use Rattle.dbpl_world.specs.History.{Event, History, more}
 
@@ -30,10 +30,11 @@ pub front : (kind : ℕ → Event) (all before piece rest : List ℕ) (start at 
     ((n : ℕ) × (end ≡ more at (map kind (take n piece)))) →
     (m : ℕ) × (end ≡ more start (map kind (take m all)))
 front kind all before piece rest start at end split came behind =
-    let whole = front_of_whole before piece rest behind.0 in
-    (whole.0,
-    both kind start at end before (take behind.0 piece) came behind.1
-    ∙ ap (λ (bytes : List ℕ). more start (map kind bytes)) (sym whole.1 ∙ ap (λ (bytes : List ℕ). take whole.0 bytes) (sym split)))
+    let whole = front_of_whole before piece rest behind.0 in (
+      whole.0,
+      both kind start at end before (take behind.0 piece) came behind.1
+          ∙ ap (λ (bytes : List ℕ). more start (map kind bytes)) (sym whole.1 ∙ ap (λ (bytes : List ℕ). take whole.0 bytes) (sym split)),
+    )
 
 -- a list is what stands before an index, the item there, and the rest
 pub at_index : {A : Type 0} (xs : List A) (i : ℕ) (d : A) → i < length xs → xs ≡ take i xs ++ (get_or xs i d ∷ drop (i + 1) xs)
@@ -51,26 +52,3 @@ pub flat_map-at_item : {A : Type 0} (f : A → List ℕ) (xs : List A) (i : ℕ)
     flat_map f xs ≡ flat_map f (take i xs) ++ (f item ++ flat_map f (drop (i + 1) xs))
 flat_map-at_item f xs i item here within =
     flat_map-at_index f xs i item within ∙ ap (λ x. flat_map f (take i xs) ++ (f x ++ flat_map f (drop (i + 1) xs))) (sym here)
-
--- Of all the bytes some came, and the rest is left.
-pub record Splits (kind : ℕ → Event) (all rest : List ℕ) (start at : History) : Type 0 where
-  pub came : List ℕ
-  pub split : all ≡ came ++ rest
-  pub is : at ≡ more start (map kind came)
-
--- more of the rest came
-pub splits_on : (kind : ℕ → Event) (all rest behind : List ℕ) (start at end : History) (n : ℕ) → Splits kind all rest start at →
-    end ≡ more at (map kind (take n rest)) → behind ≡ drop n rest → Splits kind all behind start end
-splits_on kind all rest behind start at end n before came left = record {
-  came = before.came ++ take n rest;
-  split = before.split ∙ ap (λ (bytes : List ℕ). before.came ++ bytes) (sym (take-append-drop n rest))
-      ∙ sym (append_assoc before.came (take n rest) (drop n rest)) ∙ ap (λ (bytes : List ℕ). (before.came ++ take n rest) ++ bytes) (sym left);
-  is = both kind start at end before.came (take n rest) before.is came;
-}
-
--- a front of the rest came behind what came before: a front of all
-pub splits_front : (kind : ℕ → Event) (all rest : List ℕ) (start at end : History) → Splits kind all rest start at →
-    ((n : ℕ) × (end ≡ more at (map kind (take n rest)))) → (m : ℕ) × (end ≡ more start (map kind (take m all)))
-splits_front kind all rest start at end before behind =
-    front kind all before.came rest [] start at end
-    (before.split ∙ ap (λ (bytes : List ℕ). before.came ++ bytes) (sym (append-nil rest))) before.is behind

@@ -3,7 +3,7 @@ use Rattle.std.proofs.Common.{◌≡◌, ◌∙◌, ℕ, List, [], ◌++◌, IsT
 use Rattle.std.proofs.lemmas.List.{append-nil}
 use Rattle.std.specs.List.{flat_map}
 use Rattle.dbpl_base.specs.declared.status.Status.{Status}
-use Rattle.dbpl_base.specs.declared.status.Status.TheVariants.{Absent, BadWords, Done, Memory, OutFault, Refused, SourceFault, TooLong}
+use Rattle.dbpl_base.specs.declared.status.Status.TheVariants.{Absent, Done, Memory, OutFault, Refused, SourceFault, TooLong}
 use Rattle.dbpl_tool.proofs.MeaningLaws.{prints_all, prints_prefix}
 use Rattle.dbpl_tool.specs.Answers.{Caused, IsNotRead, IsTheModule, Reads, Run, Silent}
 use Rattle.dbpl_tool.specs.Asked.{Asks}
@@ -53,7 +53,14 @@ pub cut_off : (run : Run) (file text : List ℕ) (program : Program) → Reads r
     Rose run.counts_before.say_faults run.counts_after.say_faults →
     (IsTrue run.tells → (n : ℕ) × (run.after ≡ more run.before (map Said (take n (flat_map printed_by program.statements))))) →
     Caused run IsNothing OutFault
-cut_off run file text program reads the rose some =
-    (file, text, program, reads, the, rose, λ told. let front = some told in
-    let bytes : List ℕ = take front.0 (flat_map printed_by program.statements) in
-    (bytes, [], prints_prefix program front.0, refl, front.1 ∙ said_alone run.before bytes))
+cut_off run file text program reads the rose some = (
+  file,
+  text,
+  program,
+  reads,
+  the,
+  rose,
+  λ told. let front = some told in
+      let bytes : List ℕ = take front.0 (flat_map printed_by program.statements) in
+      (bytes, [], prints_prefix program front.0, refl, front.1 ∙ said_alone run.before bytes),
+)

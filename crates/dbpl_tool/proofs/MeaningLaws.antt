@@ -1,12 +1,11 @@
 -- What a module comes to: with a turn for its body and one for each statement it ends and has printed all, and more
 -- turns than some only add events.
-use Rattle.std.proofs.Common.{◌≡◌, ◌∙◌, ℕ, ◌+◌, ◌≤◌, zero, suc, List, [], ◌∷◌, ◌++◌, ap, append_assoc, arith, map, refl, sym, take}
-use Rattle.std.proofs.lemmas.Grind.{flat_map-append}
+use Rattle.std.proofs.Common.{◌≡◌, ◌∙◌, ℕ, ◌+◌, zero, suc, List, [], ◌∷◌, ◌++◌, ap, append_assoc, arith, map, refl, sym, take}
 use Rattle.std.proofs.lemmas.List.{append-nil, map-append, take-map}
 use Rattle.std.specs.List.{flat_map}
 use Rattle.dbpl_tool.specs.Events.{Event, Out, prints}
 use Rattle.dbpl_tool.specs.Headline.{PrintsAll, PrintsPrefix}
-use Rattle.dbpl_tool.specs.Meaning.{◌>>=◌, Done, Ended, Going, Outcome, Ran, Standing, State, Stops, block, body, gives, meaning, out, outcome_of, printed_by, statement_meaning, turn}
+use Rattle.dbpl_tool.specs.Meaning.{◌>>=◌, Done, Ended, Outcome, block, gives, meaning, out, outcome_of, printed_by, statement_meaning, turn}
 use Rattle.dbpl_tree.specs.declared.program.Program.{Program}
 use Rattle.dbpl_tree.specs.declared.statement.Statement.{Statement}
 

@@ -1,5 +1,5 @@
 -- What holds at each moment of a run that says bytes and then notes some.
-use Rattle.std.proofs.Common.{◌≡◌, ◌∙◌, ℕ, ◌+◌, List, zero, suc, [], ◌∷◌, ◌++◌, ap, append_assoc, length, map, refl, subst, sym, take}
+use Rattle.std.proofs.Common.{◌≡◌, ◌∙◌, ℕ, List, zero, suc, [], ◌∷◌, ◌++◌, ap, append_assoc, length, map, refl, subst, sym, take}
 use Rattle.std.proofs.Math.Seq.{take-append_seam, take-length}
 use Rattle.std.proofs.lemmas.List.{append-nil}
 use Rattle.dbpl_tool.specs.Events.{Event, Out, prints}
@@ -26,11 +26,12 @@ always_front : (before : List ℕ) (P : List ℕ → Type 0) → KeepsFronts P �
     s.said ≡ before ++ came → P (came ++ said) → Always (SaidSince before P) s (map Said said ++ map Noted noted)
 always_front before P fronts came [] noted s is holds =
     notes_keep before P noted s (record { said = came; is = is; holds = fronts came [] holds })
-always_front before P fronts came (byte ∷ said) noted s is holds =
-    (record { said = came; is = is; holds = fronts came (byte ∷ said) holds },
-    always_front before P fronts (came ++ byte ∷ []) said noted (step s (Said byte))
-    (ap (λ (bytes : List ℕ). bytes ++ byte ∷ []) is ∙ append_assoc before came (byte ∷ []))
-    (subst P (sym (append_assoc came (byte ∷ []) said)) holds))
+always_front before P fronts came (byte ∷ said) noted s is holds = (
+  record { said = came; is = is; holds = fronts came (byte ∷ said) holds },
+  always_front before P fronts (came ++ byte ∷ []) said noted (step s (Said byte))
+      (ap (λ (bytes : List ℕ). bytes ++ byte ∷ []) is ∙ append_assoc before came (byte ∷ []))
+      (subst P (sym (append_assoc came (byte ∷ []) said)) holds),
+)
 
 pub each_front : (P : List ℕ → Type 0) → KeepsFronts P → (old new : History) (said noted : List ℕ) → P said →
     new ≡ more old (map Said said ++ map Noted noted) → EachMoment (SaidSince (now old).said P) old new

@@ -1,9 +1,8 @@
 -- Each report as the pieces that it is noted in.
-use Rattle.std.proofs.Common.{◌≡◌, ◌∙◌, ℕ, List, [], ◌∷◌, ◌++◌, ap, append_assoc, refl, sym}
+use Rattle.std.proofs.Common.{◌≡◌, ℕ, List, [], ◌∷◌, ◌++◌, append_assoc, refl}
 use Rattle.std.specs.Prelude.{codes, decimal}
-use Rattle.dbpl_base.specs.Report.{place_text, report, rule_name}
+use Rattle.dbpl_base.specs.Report.{report, rule_name}
 use Rattle.dbpl_base.specs.declared.place.Place.{Place}
-use Rattle.dbpl_base.specs.declared.status.Status.{Status}
 use Rattle.dbpl_base.specs.declared.status.Status.TheVariants.{Absent, BadWords, Done, Memory, OutFault, Refused, SourceFault, TooLong}
 
 pub report-done : report Done ≡ []
@@ -34,8 +33,12 @@ pub report-too_long : (name : List ℕ) → report (TooLong name) ≡ codes "fil
 unfolding report
 report-too_long name = refl
 
+-- the report of a refusal, from the letter and number of its rule and the numbers of its place
+abbrev pub pieces_of : List ℕ → List ℕ → List ℕ → List ℕ → List ℕ → List ℕ
+pieces_of letter number unit line column =
+    codes "refused " ++ (letter ++ (number ++ (codes " at " ++ (unit ++ (58 ∷ (line ++ (58 ∷ (column ++ 10 ∷ []))))))))
+
 pub report-refused : (place : Place) (rule number : ℕ) (letter : List ℕ) → rule_name rule ≡ letter ++ decimal number →
-    report (Refused place rule)
-    ≡ codes "refused " ++ (letter ++ (decimal number ++ (codes " at " ++ (decimal place.unit ++ (58 ∷ (decimal place.line ++ (58 ∷ (decimal place.col ++ 10 ∷ []))))))))
+    report (Refused place rule) ≡ pieces_of letter (decimal number) (decimal place.unit) (decimal place.line) (decimal place.col)
 unfolding report
 report-refused place rule number letter named = rw named (simp append_assoc)

@@ -1,5 +1,5 @@
 -- From the causes by cases to the rows of the contract, each a fact of its own.
-use Rattle.std.proofs.Common.{◌≡◌, ◌∙◌, ℕ, ◌+◌, ◌<◌, ◌≤◌, ◌⊎◌, List, [], ◌++◌, IfErr, IfSome, IsSomeAnd, IsTrue, None, Ok, Err, Option, Result, Some, ap, arith, inl, inr, length, map, refl, subst, sym, take}
+use Rattle.std.proofs.Common.{◌≡◌, ◌∙◌, ℕ, ◌<◌, ◌≤◌, List, [], ◌++◌, IfErr, IfSome, OnErr, OnOk, IsSomeAnd, IsTrue, None, Ok, Err, Option, Result, Some, ap, arith, inl, inr, length, map, refl, subst, sym, take}
 use Rattle.std.proofs.lemmas.List.{append-nil}
 use Rattle.dbpl_base.specs.Places.{start_of}
 use Rattle.dbpl_base.specs.Report.{report}
@@ -13,11 +13,11 @@ use Rattle.dbpl_tool.specs.Answers.{Caused, IsNoModule, IsOrMemory, IsSilent, Is
 use Rattle.dbpl_tool.proofs.Moments.{all_prefix, nothing_prefix}
 use Rattle.dbpl_tool.specs.Asked.{Asks}
 use Rattle.dbpl_tool.specs.Headline.{PrintsAll, PrintsPrefix}
-use Rattle.dbpl_tool.specs.Noting.{NotesAll}
 use Rattle.dbpl_tool.specs.Sources.{IsAbsent, IsTooLong}
 use Rattle.dbpl_tree.specs.Program.{SpellsProgram}
 use Rattle.dbpl_tree.specs.declared.program.Program.{Program}
-use Rattle.dbpl_world.specs.Counts.{Counts, OnlyNoteFaults, OnlySayFaults, Rose}
+use Rattle.dbpl_world.specs.Counts.{OnlyNoteFaults, OnlySayFaults, Rose}
+use Rattle.dbpl_world.specs.declared.counts.Counts.{Counts}
 use Rattle.dbpl_world.specs.Files.{Files, file_of}
 use Rattle.dbpl_world.specs.History.{Event, History, Noted, Said, more}
 use Rattle.dbpl_world.specs.declared.failed.Failed.{Failed}
@@ -45,7 +45,8 @@ pub record Notes (run : Run) (after : History) (counts : Counts) (status : Statu
   pub said : OnlySayFaults run.counts_before run.counts_after
   pub notes : OnlyNoteFaults run.counts_after counts
   pub cause : IfErr result (λ error. Rose run.counts_after.note_faults counts.note_faults)
-  pub told : IsTrue run.tells → NotesAll (report status) run.after after result
+  pub ok : IsTrue run.tells → OnOk result (after ≡ more run.after (map Noted (report status)))
+  pub err : IsTrue run.tells → OnErr result ((n : ℕ) × (after ≡ more run.after (map Noted (take n (report status)))))
 
 -- no note failed while the work was done
 same_notes : (before after : Counts) → OnlySayFaults before after → after.note_faults ≡ before.note_faults
@@ -67,21 +68,25 @@ behind before mid after said noted first none came went =
 said_reported : (run : Run) (after : History) (counts : Counts) (status : Status) (P : List ℕ → Type 0) (said first : List ℕ)
     (result : Result (Unit {0}) Failed) → OnlySayFaults run.counts_before run.counts_after →
     IfErr result (λ error. Rose run.counts_after.note_faults counts.note_faults) → P said → first ≡ [] →
-    run.after ≡ more run.before (map Said said ++ map Noted first) → NotesAll (report status) run.after after result →
+    run.after ≡ more run.before (map Said said ++ map Noted first) → OnOk result (after ≡ more run.after (map Noted (report status))) →
+    OnErr result ((n : ℕ) × (after ≡ more run.after (map Noted (take n (report status))))) →
     (said noted : List ℕ) × P said × Reports run.counts_before counts status noted
     × (after ≡ more run.before (map Said said ++ map Noted noted))
-said_reported run after counts status P said first (Ok value) saying cause holds none came all =
+said_reported run after counts status P said first (Ok value) saying cause holds none came all some =
     (said, report status, holds, inl refl, behind run.before run.after after said (report status) first none came all)
-said_reported run after counts status P said first (Err error) saying cause holds none came some =
-    (said, take some.0 (report status), holds,
-    inr (some.0, refl, rw (← same_notes run.counts_before run.counts_after saying) cause),
-    behind run.before run.after after said (take some.0 (report status)) first none came some.1)
+said_reported run after counts status P said first (Err error) saying cause holds none came all some = (
+  said,
+  take some.0 (report status),
+  holds,
+  inr (some.0, refl, rw (← same_notes run.counts_before run.counts_after saying) cause),
+  behind run.before run.after after said (take some.0 (report status)) first none came some.1,
+)
 
 says_reported : (run : Run) (after : History) (counts : Counts) (status : Status) (P : List ℕ → Type 0) → Notes run after counts status →
     Says run P IsNothing → Says (reported run after counts) P (Reports run.counts_before counts status)
 says_reported run after counts status P notes says told =
     let work = says told in
-    said_reported run after counts status P work.0 work.1 notes.result notes.said notes.cause work.2 work.3 work.4 (notes.told told)
+    said_reported run after counts status P work.0 work.1 notes.result notes.said notes.cause work.2 work.3 work.4 (notes.ok told) (notes.err told)
 
 -- the cause stands when the report is noted
 pub caused_reported : (run : Run) (after : History) (counts : Counts) (status : Status) → Notes run after counts status →
@@ -95,9 +100,15 @@ caused_reported run after counts (Absent name) notes cause =
     (cause.0, cause.1, says_reported run after counts (Absent name) _ notes cause.2)
 caused_reported run after counts SourceFault notes cause =
     (cause.0, cause.1, cause.2, says_reported run after counts SourceFault _ notes cause.3)
-caused_reported run after counts OutFault notes cause =
-    (cause.0, cause.1, cause.2, reads_on cause.3, cause.4, rw (same_says run.counts_after counts notes.notes) cause.5,
-    says_reported run after counts OutFault _ notes cause.6)
+caused_reported run after counts OutFault notes cause = (
+  cause.0,
+  cause.1,
+  cause.2,
+  reads_on cause.3,
+  cause.4,
+  rw (same_says run.counts_after counts notes.notes) cause.5,
+  says_reported run after counts OutFault _ notes cause.6,
+)
 caused_reported run after counts Memory notes cause = says_reported run after counts Memory _ notes cause
 caused_reported run after counts (TooLong name) notes cause =
     (cause.0, cause.1, says_reported run after counts (TooLong name) _ notes cause.2)

@@ -1,5 +1,5 @@
 -- Why each answer of the command comes, and what it leaves.
-use Rattle.std.specs.Prelude.{◌≡◌, ℕ, ◌+◌, ◌<◌, ◌≤◌, ◌⊎◌, List, [], ◌∷◌, ◌++◌, length, map, take, Bool, IsTrue, Option, Some, None, IfSome}
+use Rattle.std.specs.Prelude.{◌≡◌, ℕ, ◌≤◌, ◌⊎◌, List, [], ◌++◌, length, map, take, Bool, IsTrue, Option, Some, IfSome}
 use Rattle.dbpl_base.specs.Places.{start_of}
 use Rattle.dbpl_base.specs.Report.{report}
 use Rattle.dbpl_base.specs.declared.status.Status.{Status}
@@ -10,7 +10,8 @@ use Rattle.dbpl_tool.specs.Headline.{PrintsAll, PrintsPrefix}
 use Rattle.dbpl_tool.specs.Sources.{IsAbsent, IsTooLong}
 use Rattle.dbpl_tree.specs.Program.{SpellsProgram}
 use Rattle.dbpl_tree.specs.declared.program.Program.{Program}
-use Rattle.dbpl_world.specs.Counts.{Counts, Rose}
+use Rattle.dbpl_world.specs.Counts.{Rose}
+use Rattle.dbpl_world.specs.declared.counts.Counts.{Counts}
 use Rattle.dbpl_world.specs.Files.{Files, file_of}
 use Rattle.dbpl_world.specs.History.{History, Noted, Said, more}
 

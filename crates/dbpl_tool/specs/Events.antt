@@ -1,5 +1,5 @@
 -- What a run does that can be seen: one event is one printed byte.
-use Rattle.std.specs.Prelude.{ℕ, List, [], ◌∷◌, map}
+use Rattle.std.specs.Prelude.{ℕ, List, [], ◌∷◌}
 
 pub data Event : Type 0 where
   -- this byte was printed

@@ -3,6 +3,4 @@ pub mod Asked
 pub mod Events
 pub mod Headline
 pub mod Meaning
-pub mod Noting
-pub mod Printing
 pub mod Sources

@@ -30,7 +30,6 @@ go_on (Done a state) next = next a state
 go_on (Stops standing state) next = Stops standing state
 
 infixl 20 ◌>>=◌
-
 -- one phrase, and then the next with its value
 unfoldable pub ◌>>=◌ : {A B : Type 0} → Doing A → (A → Doing B) → Doing B
 phrase >>= next = λ state. go_on (phrase state) next

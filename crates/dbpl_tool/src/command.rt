@@ -38,16 +38,16 @@ pub fn dbpl<W: World, S: Shelf, L: Ledger>(
 
     // When each answer comes.
     ensures answered { Caused (record {
-        words = words.now;
-        files = S.files shelf.old;
-        shelf_faults_before = S.shelf_faults shelf.old;
-        shelf_faults_after = S.shelf_faults shelf.new;
-        counts_before = W.counts world.old;
-        counts_after = W.counts world.new;
-        tells = W.tells;
-        before = W.history world.old;
-        after = W.history world.new;
-      }) (Reports (W.counts world.old) (W.counts world.new) result) result }
+      words = words.now;
+      files = S.files shelf.old;
+      shelf_faults_before = S.shelf_faults shelf.old;
+      shelf_faults_after = S.shelf_faults shelf.new;
+      counts_before = W.counts world.old;
+      counts_after = W.counts world.new;
+      tells = W.tells;
+      before = W.history world.old;
+      after = W.history world.new;
+    }) (Reports (W.counts world.old) (W.counts world.new) result) result }
     ensures done_only { result ≡ Status.Done → (file : List ℕ) × Asks words.now file × IfSome (S.files shelf.old) (λ files. (text : List ℕ) × (program : Program) × (file_of files file ≡ Some text) × SpellsProgram 0 text program) }
     ensures bad_words { ((file : List ℕ) → Asks words.now file → ⊥) → IsOrMemory result Status.BadWords }
     ensures bad_words_only { result ≡ Status.BadWords → (file : List ℕ) → Asks words.now file → ⊥ }

@@ -1,30 +1,15 @@
 // Notes on standard error, piece after piece.
-ghost use Rattle.std.specs.Prelude.{◌≡◌, IsTrue, OnErr};
+ghost use Rattle.std.specs.Prelude.{◌≡◌, ℕ, map, take, IsTrue, OnErr, OnOk};
 ghost use Rattle.std.specs.List.{flat_map};
-ghost use Rattle.dbpl_tool.specs.Noting.{NotesAll};
 ghost use Rattle.dbpl_world.specs.Counts.{OnlyNoteFaults, Rose};
+ghost use Rattle.dbpl_world.specs.History.{Noted, more};
 
-use dbpl_world::{Failed, World};
-
-/// Notes all the bytes.
-pub fn note_all<W: World>(world: &mut W, bytes: &[u8]) -> Result<(), Failed>
-    ensures told { IsTrue W.tells → NotesAll bytes.now (W.history world.old) (W.history world.new) result }
-    ensures same { W.mounted world.new ≡ W.mounted world.old }
-    ensures counts { OnlyNoteFaults (W.counts world.old) (W.counts world.new) }
-    ensures cause { OnErr result (Rose (W.counts world.old).note_faults (W.counts world.new).note_faults) }
-{
-    let mut rest = bytes;
-    while !rest.is_empty() {
-        let count = world.note(rest)?;
-        let (_, behind) = rest.split_at(count);
-        rest = behind;
-    }
-    Ok(())
-}
+use dbpl_world::{Failed, World, note_all};
 
 /// Notes the pieces one after another.
 pub fn note_pieces<W: World>(world: &mut W, pieces: &[&[u8]]) -> Result<(), Failed>
-    ensures told { IsTrue W.tells → NotesAll (flat_map (λ piece. piece.now) pieces.now) (W.history world.old) (W.history world.new) result }
+    ensures ok { IsTrue W.tells → OnOk result (W.history world.new ≡ more (W.history world.old) (map Noted (flat_map (λ piece. piece.now) pieces.now))) }
+    ensures err { IsTrue W.tells → OnErr result ((n : ℕ) × (W.history world.new ≡ more (W.history world.old) (map Noted (take n (flat_map (λ piece. piece.now) pieces.now))))) }
     ensures same { W.mounted world.new ≡ W.mounted world.old }
     ensures counts { OnlyNoteFaults (W.counts world.old) (W.counts world.new) }
     ensures cause { OnErr result (Rose (W.counts world.old).note_faults (W.counts world.new).note_faults) }

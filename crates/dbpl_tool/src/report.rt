@@ -1,8 +1,8 @@
 // The report of a status, noted in pieces without taking memory.
-ghost use Rattle.std.specs.Prelude.{◌≡◌, ◌++◌, decimal, IsTrue, OnErr};
+ghost use Rattle.std.specs.Prelude.{◌≡◌, ◌++◌, ℕ, decimal, map, take, IsTrue, OnErr, OnOk};
 ghost use Rattle.dbpl_base.specs.Report.{report, rule_name};
-ghost use Rattle.dbpl_tool.specs.Noting.{NotesAll};
 ghost use Rattle.dbpl_world.specs.Counts.{OnlyNoteFaults, Rose};
+ghost use Rattle.dbpl_world.specs.History.{Noted, more};
 
 use crate::noting::note_pieces;
 use dbpl_base::{Place, Status};
@@ -11,7 +11,8 @@ use itoa::Buffer;
 
 /// Notes the report of this status. After an error a front of it is noted.
 pub fn note_report<W: World>(status: &Status, world: &mut W) -> Result<(), Failed>
-    ensures told { IsTrue W.tells → NotesAll (report status.now) (W.history world.old) (W.history world.new) result }
+    ensures ok { IsTrue W.tells → OnOk result (W.history world.new ≡ more (W.history world.old) (map Noted (report status.now))) }
+    ensures err { IsTrue W.tells → OnErr result ((n : ℕ) × (W.history world.new ≡ more (W.history world.old) (map Noted (take n (report status.now))))) }
     ensures same { W.mounted world.new ≡ W.mounted world.old }
     ensures counts { OnlyNoteFaults (W.counts world.old) (W.counts world.new) }
     ensures cause { OnErr result (Rose (W.counts world.old).note_faults (W.counts world.new).note_faults) }
@@ -29,14 +30,19 @@ pub fn note_report<W: World>(status: &Status, world: &mut W) -> Result<(), Faile
 }
 
 fn note_refusal<W: World>(world: &mut W, place: Place, rule: u16) -> Result<(), Failed>
-    ensures told { IsTrue W.tells → NotesAll (report (Status.Refused place rule)) (W.history world.old) (W.history world.new) result }
+    ensures ok { IsTrue W.tells → OnOk result (W.history world.new ≡ more (W.history world.old) (map Noted (report (Status.Refused place rule)))) }
+    ensures err { IsTrue W.tells → OnErr result ((n : ℕ) × (W.history world.new ≡ more (W.history world.old) (map Noted (take n (report (Status.Refused place rule)))))) }
     ensures same { W.mounted world.new ≡ W.mounted world.old }
     ensures counts { OnlyNoteFaults (W.counts world.old) (W.counts world.new) }
     ensures cause { OnErr result (Rose (W.counts world.old).note_faults (W.counts world.new).note_faults) }
 {
     let (letter, number) = rule_name(rule);
-    let (mut numbers, mut units, mut lines, mut columns) =
-        (Buffer::new(), Buffer::new(), Buffer::new(), Buffer::new());
+    let (mut numbers, mut units, mut lines, mut columns) = (
+        Buffer::new(),
+        Buffer::new(),
+        Buffer::new(),
+        Buffer::new(),
+    );
     note_pieces(
         world,
         &[

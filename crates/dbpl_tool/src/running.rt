@@ -18,16 +18,16 @@ pub fn run<W: World, S: Shelf>(
     world: &mut W,
 ) -> Status
     ensures caused { Caused (record {
-        words = words.now;
-        files = S.files shelf.old;
-        shelf_faults_before = S.shelf_faults shelf.old;
-        shelf_faults_after = S.shelf_faults shelf.new;
-        counts_before = W.counts world.old;
-        counts_after = W.counts world.new;
-        tells = W.tells;
-        before = W.history world.old;
-        after = W.history world.new;
-      }) (λ noted. noted ≡ []) result }
+      words = words.now;
+      files = S.files shelf.old;
+      shelf_faults_before = S.shelf_faults shelf.old;
+      shelf_faults_after = S.shelf_faults shelf.new;
+      counts_before = W.counts world.old;
+      counts_after = W.counts world.new;
+      tells = W.tells;
+      before = W.history world.old;
+      after = W.history world.new;
+    }) (λ noted. noted ≡ []) result }
     ensures same { W.mounted world.new ≡ W.mounted world.old }
     ensures counts { OnlySayFaults (W.counts world.old) (W.counts world.new) }
     ensures files { S.files shelf.new ≡ S.files shelf.old }

@@ -1,7 +1,7 @@
 -- The rows that don't follow from the causes by a search.
-use Rattle.std.proofs.Common.{ℕ, List, ◌++◌, IsTrue, map}
-use Rattle.dbpl_tool.proofs.Moments.{each_front, none_fronts, now-said_noted, prefix_fronts, said_at_end, noted_at_end}
-use Rattle.dbpl_tool.proofs.Rows.{Notes, caused_reported, complete, refused, reported, says_all, says_prefix, says_something, silent}
+use Rattle.std.proofs.Common.{ℕ, List}
+use Rattle.dbpl_tool.proofs.Moments.{each_front, none_fronts, prefix_fronts, said_at_end, noted_at_end}
+use Rattle.dbpl_tool.proofs.Rows.{caused_reported, complete, refused, reported, says_all, says_prefix, says_something, silent}
 use Rattle.dbpl_tool.specs.Answers.{Caused, Reports, Run}
 use Rattle.dbpl_tool.specs.Headline.{PrintsAll, PrintsPrefix}
 use Rattle.dbpl_tool.proofs.command.dbpl.Given as given
@@ -38,7 +38,8 @@ cause g c =
       said = c.run-status.ensures.counts;
       notes = c.note_report.ensures.counts;
       cause = c.note_report.ensures.cause;
-      told = c.note_report.ensures.told;
+      ok = c.note_report.ensures.ok;
+      err = c.note_report.ensures.err;
     }) c.run-status.ensures.caused
 
 pub returns-clause-answered : goal.returns-clause-answered

@@ -1,9 +1,7 @@
 -- Each return has its cause.
-use Rattle.std.proofs.Common.{ℕ, List, refl}
+use Rattle.std.proofs.Common.{refl}
 use Rattle.dbpl_tool.proofs.Causes.{cut_off, not_read, printed, still}
 use Rattle.dbpl_tool.specs.Answers.{Reads, Run}
-use Rattle.dbpl_world.specs.Counts.{Counts}
-use Rattle.dbpl_world.specs.History.{History}
 use Rattle.dbpl_tool.proofs.running.run.Goals as goal
 
 pub returns-in-Err-module-clause-caused : goal.returns-in-Err-module-clause-caused
@@ -20,7 +18,7 @@ returns-in-Err-module-clause-caused g c =
       after = g.W.World.history c.args.world.now;
     } in
     let reads : Reads run c.in-Some.file.now c.in-Ok.text.items =
-        record { asked = c.in-Some.ensures.reading; found = c.in-Ok.ensures.found; within = c.in-Ok.ensures.within } in
+    record { asked = c.in-Some.ensures.reading; found = c.in-Ok.ensures.found; within = c.in-Ok.ensures.within } in
     let cause = rw c.as_slice.ensures.value at c.in-Err-module.ensures.err in
     not_read run c.in-Some.file.now c.in-Ok.text.items c.in-Err-module.status reads cause (still run refl)
 
@@ -38,9 +36,9 @@ returns-in-Ok-print_program-clause-caused g c =
       after = g.W.World.history c.print_program.new.world;
     } in
     let reads : Reads run c.in-Some.file.now c.in-Ok.text.items =
-        record { asked = c.in-Some.ensures.reading; found = c.in-Ok.ensures.found; within = c.in-Ok.ensures.within } in
-    let spelt = rw c.as_slice.ensures.value at c.in-Ok-module.ensures.found in
-    printed run c.in-Some.file.now c.in-Ok.text.items c.in-Ok-module.program reads spelt c.in-Ok-print_program.ensures.told
+    record { asked = c.in-Some.ensures.reading; found = c.in-Ok.ensures.found; within = c.in-Ok.ensures.within } in
+    let the = rw c.as_slice.ensures.value at c.in-Ok-module.ensures.found in
+    printed run c.in-Some.file.now c.in-Ok.text.items c.in-Ok-module.program reads the c.in-Ok-print_program.ensures.ok
 
 pub returns-clause-caused : goal.returns-clause-caused
 returns-clause-caused g c =
@@ -56,7 +54,7 @@ returns-clause-caused g c =
       after = g.W.World.history c.print_program.new.world;
     } in
     let reads : Reads run c.in-Some.file.now c.in-Ok.text.items =
-        record { asked = c.in-Some.ensures.reading; found = c.in-Ok.ensures.found; within = c.in-Ok.ensures.within } in
-    let spelt = rw c.as_slice.ensures.value at c.in-Ok-module.ensures.found in
-    cut_off run c.in-Some.file.now c.in-Ok.text.items c.in-Ok-module.program reads spelt c.in-Err-print_program.ensures.cause
-    c.in-Err-print_program.ensures.told
+    record { asked = c.in-Some.ensures.reading; found = c.in-Ok.ensures.found; within = c.in-Ok.ensures.within } in
+    let the = rw c.as_slice.ensures.value at c.in-Ok-module.ensures.found in
+    cut_off run c.in-Some.file.now c.in-Ok.text.items c.in-Ok-module.program reads the c.in-Err-print_program.ensures.cause
+    c.in-Err-print_program.ensures.err
