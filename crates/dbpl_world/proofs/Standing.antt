@@ -100,10 +100,15 @@ mounts input stores stores' put events all name log' pages' tied is kept newer f
     let here : reads_of (store_of s name) ≡ (log', pages') = tied.stores_are name ∙ found in
     rw (ap (λ front. now (record { start = start_of input front; events = all })) kept ∙ entered input stores put events (Mounted name ∷ []) all is)
     (record {
-      input_is = tied.input_is; said_is = tied.said_is; noted_is = tied.noted_is; mounted_is = refl;
-      log_is = ap (λ parts. parts.0) here; pages_is = ap (λ parts. parts.1) here;
+      input_is = tied.input_is;
+      said_is = tied.said_is;
+      noted_is = tied.noted_is;
+      mounted_is = refl;
+      log_is = ap (λ parts. parts.0) here;
+      pages_is = ap (λ parts. parts.1) here;
       stores_are = λ other. picked_mount (bytes_eq name other) (store_of s name) (store_of s other) _ (newest stores' other) here (tied.stores_are other ∙ sym (newer other));
-      images_are = images_after s (Mounted name) tt tied.images_are })
+      images_are = images_after s (Mounted name) tt tied.images_are;
+    })
 
 pub tied_mounted : (input : List ℕ) (stores stores' : List StoreBytes) (put : ℕ) (events all : List Event) {mounted mounted' : Option (List ℕ)} {left said noted log pages : List ℕ} (name log' pages' : List ℕ) →
     IsTied (now (history_in input stores put events)) mounted left said noted log pages stores → all ≡ events ++ Mounted name ∷ [] → take put stores' ≡ take put stores →

@@ -28,19 +28,36 @@ impl StoreBytes {
     }
 
     /// A copy of that store, empty where there is none, with room for so many more bytes in each part.
-    pub fn copy_of(alloc: Global, stores: &[StoreBytes], name: &[u8], room: usize) -> Result<StoreBytes, AllocError>
+    pub fn copy_of(
+        alloc: Global,
+        stores: &[StoreBytes],
+        name: &[u8],
+        room: usize,
+    ) -> Result<StoreBytes, AllocError>
         ensures name { IfOk result (λ store. store.name.items ≡ name.now) }
         ensures parts { IfOk result (λ store. newest stores.now name.now ≡ (store.log.items, store.pages.items)) }
         ensures room { IfOk result (λ store. (vec_len store.log + room ≤ vec_capacity store.log) × (vec_len store.pages + room ≤ vec_capacity store.pages)) }
     {
         match StoreBytes::last_of(stores, name) {
-            Some(store) => StoreBytes::with_room(alloc, name, store.log.as_slice(), store.pages.as_slice(), room),
+            Some(store) => StoreBytes::with_room(
+                alloc,
+                name,
+                store.log.as_slice(),
+                store.pages.as_slice(),
+                room,
+            ),
             None => StoreBytes::with_room(alloc, name, &[], &[], room),
         }
     }
 
     /// A store with these bytes, and room for so many more in each part.
-    pub fn with_room(alloc: Global, name: &[u8], log: &[u8], pages: &[u8], room: usize) -> Result<StoreBytes, AllocError>
+    pub fn with_room(
+        alloc: Global,
+        name: &[u8],
+        log: &[u8],
+        pages: &[u8],
+        room: usize,
+    ) -> Result<StoreBytes, AllocError>
         ensures name { IfOk result (λ store. store.name.items ≡ name.now) }
         ensures log { IfOk result (λ store. store.log.items ≡ log.now) }
         ensures pages { IfOk result (λ store. store.pages.items ≡ pages.now) }
@@ -57,7 +74,12 @@ impl StoreBytes {
     }
 
     /// Puts the store that was mounted, if any, behind the others. There is room for it.
-    pub fn set_aside(stores: &mut Vec<StoreBytes>, name: Option<Vec<u8>>, log: Vec<u8>, pages: Vec<u8>)
+    pub fn set_aside(
+        stores: &mut Vec<StoreBytes>,
+        name: Option<Vec<u8>>,
+        log: Vec<u8>,
+        pages: Vec<u8>,
+    )
         requires room { vec_len stores.old < vec_capacity stores.old }
         ensures newest { (other : List ℕ) → newest stores.new.items other ≡ contents_of (option_map (λ bytes. bytes.items) name) (log.items, pages.items) stores.old.items other }
         ensures kept { take (vec_len stores.old) stores.new.items ≡ stores.old.items }

@@ -1,4 +1,4 @@
-use Rattle.std.proofs.Common.{◌≡◌, List, [], take, MatchOption}
+use Rattle.std.proofs.Common.{◌≡◌, [], take, MatchOption}
 use Rattle.dbpl_world.specs.Tied.{newest}
 use Rattle.dbpl_world.proofs.store_bytes.StoreBytes.last_of.Given as goal
 
