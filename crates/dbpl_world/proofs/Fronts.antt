@@ -12,6 +12,9 @@ one_byte bytes i within = rw (drop-cons bytes i 0) refl
 pub take-take : (n k : ℕ) (bytes : List ℕ) → take n (take k bytes) ≡ take (min n k) bytes
 take-take n k bytes = grind (arith, common_steps)
 
+pub take_of_take : {A : Type 0} (n k : ℕ) (items : List A) → n ≤ k → take n (take k items) ≡ take n items
+take_of_take n k items shorter = grind (arith, common_steps)
+
 -- after a front of the bytes, a front of a piece of the rest
 pub adds_more : (event : ℕ → Event) (bytes : List ℕ) (done k n : ℕ) (piece : List ℕ) (old mid new : History) → piece ≡ take k (drop done bytes) → mid ≡ more old (map event (take done bytes)) → new ≡ more mid (map event (take n piece)) → new ≡ more old (map event (take (done + min n k) bytes))
 adds_more event bytes done k n piece old mid new of_rest first second = second

@@ -1,13 +1,14 @@
 -- What a world in memory holds keeps agreeing with its history.
-use Rattle.std.proofs.Common.{◌≡◌, ℕ, ◌+◌, List, [], ◌∷◌, ◌++◌, map, drop, Bool, true, false, Option, Some, None, refl, ap, ap₂, ◌∙◌}
+use Rattle.std.proofs.Common.{◌≤◌, take, sym, ◌≡◌, ℕ, ◌+◌, List, [], ◌∷◌, ◌++◌, map, drop, Bool, true, false, Option, Some, None, refl, ap, ap₂, ◌∙◌}
 use Rattle.dbpl_world.specs.declared.part.Part.{Part}
 use Rattle.dbpl_world.specs.declared.part.Part.TheVariants.{Log, Pages}
 use Rattle.dbpl_world.specs.declared.store_bytes.StoreBytes.{StoreBytes}
 use Rattle.std.specs.Prelude.{bytes_eq, if◌then◌else◌}
 use Rattle.std.proofs.lemmas.List.{drop-drop}
 use Rattle.dbpl_world.specs.Images.{written}
-use Rattle.dbpl_world.specs.History.{Store, State, store_among, Event, Took, Said, Noted, Wrote, Synced, step, replay, now, AllReadAnImage, by_part}
-use Rattle.dbpl_world.specs.Tied.{history_in, reads_of, newest, contents_of, IsTied}
+use Rattle.dbpl_world.specs.History.{Store, State, store_of, store_among, Event, Mounted, Took, Said, Noted, Wrote, Synced, step, replay, now, AllReadAnImage, by_part}
+use Rattle.dbpl_world.specs.Tied.{start_of, history_in, reads_of, newest, contents_of, IsTied}
+use Rattle.dbpl_world.proofs.Fronts.{take_of_take}
 use Rattle.dbpl_world.proofs.Images.{store_settled, images_after}
 use Rattle.dbpl_world.proofs.Replays.{now-more, replay-said, replay-noted}
 
@@ -80,3 +81,37 @@ pub tied_synced : (input : List ℕ) (stores : List StoreBytes) (put : ℕ) (eve
     IsTied (now (history_in input stores put events)) mounted left said noted log pages stores → all ≡ events ++ Synced part ∷ [] →
     IsTied (now (history_in input stores put all)) mounted left said noted log pages stores
 tied_synced input stores put events all part tied is = rw (entered input stores put events (Synced part ∷ []) all is) (synced part (now (history_in input stores put events)) tied)
+
+-- A store is mounted: what was mounted is set aside, and reads of no store change.
+
+pub kept_front : (put n : ℕ) (stores stores' : List StoreBytes) → put ≤ n → take n stores' ≡ stores → take put stores' ≡ take put stores
+kept_front put n stores stores' within kept = sym (take_of_take put n stores' within) ∙ ap (take put) kept
+
+picked_mount : (test : Bool) (here there : Store) (parts others : List ℕ × List ℕ) → reads_of here ≡ parts → reads_of there ≡ others → reads_of (if test then here else there) ≡ (if test then parts else others)
+picked_mount true here there parts others first second = first
+picked_mount false here there parts others first second = second
+
+mounts : (input : List ℕ) (stores stores' : List StoreBytes) (put : ℕ) (events all : List Event) {mounted : Option (List ℕ)} {left said noted log pages : List ℕ} (name log' pages' : List ℕ) →
+    IsTied (now (history_in input stores put events)) mounted left said noted log pages stores → all ≡ events ++ Mounted name ∷ [] → take put stores' ≡ take put stores →
+    ((other : List ℕ) → newest stores' other ≡ contents_of mounted (log, pages) stores other) → contents_of mounted (log, pages) stores name ≡ (log', pages') →
+    IsTied (now (history_in input stores' put all)) (Some name) left said noted log' pages' stores'
+mounts input stores stores' put events all name log' pages' tied is kept newer found =
+    let s = now (history_in input stores put events) in
+    let here : reads_of (store_of s name) ≡ (log', pages') = tied.stores_are name ∙ found in
+    rw (ap (λ front. now (record { start = start_of input front; events = all })) kept ∙ entered input stores put events (Mounted name ∷ []) all is)
+    (record {
+      input_is = tied.input_is;
+      said_is = tied.said_is;
+      noted_is = tied.noted_is;
+      mounted_is = refl;
+      log_is = ap (λ parts. parts.0) here;
+      pages_is = ap (λ parts. parts.1) here;
+      stores_are = λ other. picked_mount (bytes_eq name other) (store_of s name) (store_of s other) _ (newest stores' other) here (tied.stores_are other ∙ sym (newer other));
+      images_are = images_after s (Mounted name) tt tied.images_are;
+    })
+
+pub tied_mounted : (input : List ℕ) (stores stores' : List StoreBytes) (put : ℕ) (events all : List Event) {mounted mounted' : Option (List ℕ)} {left said noted log pages : List ℕ} (name log' pages' : List ℕ) →
+    IsTied (now (history_in input stores put events)) mounted left said noted log pages stores → all ≡ events ++ Mounted name ∷ [] → take put stores' ≡ take put stores →
+    ((other : List ℕ) → newest stores' other ≡ contents_of mounted (log, pages) stores other) → contents_of mounted (log, pages) stores name ≡ (log', pages') → mounted' ≡ Some name →
+    IsTied (now (history_in input stores' put all)) mounted' left said noted log' pages' stores'
+tied_mounted input stores stores' put events all name log' pages' tied is kept newer found mounted_is = rw mounted_is (mounts input stores stores' put events all name log' pages' tied is kept newer found)

@@ -28,6 +28,10 @@ fresh_history input = record { start = record { input = input; said = []; noted 
 abbrev pub with_store : List ℕ → List ℕ → List ℕ → State → State
 with_store name log pages s = record s { others = λ other. if bytes_eq name other then settled_store log pages else s.others other }
 
+-- the same history from a start that has this store too
+abbrev pub with_store_put : List ℕ → List ℕ → List ℕ → History → History
+with_store_put name log pages h = record h { start = with_store name log pages h.start }
+
 -- A call of a world in memory that is to move so many bytes. It fails exactly where its rule says so, and then it does
 -- nothing but raise its count.
 pub record RunsCall {A E : Type 0} (old new : MemoryWorld) (moved : ℕ) (good bad : Counts → Counts) (result : Result A E) : Type 0 where

@@ -27,7 +27,7 @@ impl Budget {
     }
 
     /// Whether a call that moves so many bytes, and fills so large a gap, goes well.
-    fn allows(&self, gap: u64, count: usize) -> bool
+    pub fn allows(&self, gap: u64, count: usize) -> bool
         ensures { MatchBool result (Allows (rule_of self.now) (gap + count)) (MustFail (rule_of self.now) (gap + count)) }
     {
         !self.fails.contains(&self.calls) && is_within(self.left, gap, count)

@@ -1,5 +1,5 @@
 // The record of a world in memory. Its bytes are exactly those that its calls moved.
-ghost use Rattle.std.specs.Prelude.{◌≡◌, ◌+◌, ◌*◌, ◌<◌, ◌≤◌, ◌++◌, [], length, IfOk, vec_len, vec_capacity};
+ghost use Rattle.std.specs.Prelude.{◌≡◌, ◌+◌, ◌*◌, ◌<◌, ◌≤◌, ◌++◌, [], length, IfOk, OnOk, vec_len, vec_capacity};
 ghost use Rattle.dbpl_world.specs.Calls.{bytes_of, events_of, total_bytes};
 
 use crate::made_call::MadeCall;
@@ -25,6 +25,18 @@ impl CallRecord {
             calls: Vec::with_capacity(alloc, room / 64 + 1)?,
             bytes: Vec::with_capacity(alloc, room)?,
         })
+    }
+
+    /// Makes room for so many more bytes.
+    pub fn reserve(&mut self, additional: usize) -> Result<(), AllocError>
+        ensures events { events_recorded self.new ≡ events_recorded self.old }
+        ensures calls { vec_len self.new.calls ≡ vec_len self.old.calls }
+        ensures bytes { vec_len self.new.bytes ≡ vec_len self.old.bytes }
+        ensures calls_room { vec_capacity self.old.calls ≤ vec_capacity self.new.calls }
+        ensures bytes_room { vec_capacity self.old.bytes ≤ vec_capacity self.new.bytes }
+        ensures ok { OnOk result (vec_len self.new.bytes + additional ≤ vec_capacity self.new.bytes) }
+    {
+        self.bytes.reserve(additional)
     }
 
     /// Records one more call. There is room for it.

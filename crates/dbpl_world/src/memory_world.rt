@@ -9,7 +9,7 @@ use crate::budget::Budget;
 use crate::call_record::CallRecord;
 use crate::store_bytes::StoreBytes;
 use crate::{Counts, NoMemory};
-use std::alloc::Global;
+use std::alloc::{AllocError, Global};
 
 mod calls;
 
@@ -34,6 +34,7 @@ pub struct MemoryWorld {
 
     ghost put_within: { put ≤ vec_len stores },
     ghost taken_within: { taken ≤ vec_len input },
+    ghost few_stores: { vec_len stores ≤ put + vec_len recorded.calls },
     ghost few: { vec_len recorded.calls ≤ budget.calls },
     ghost calls_room: { 64 * vec_len recorded.calls + budget.left ≤ 64 * vec_capacity recorded.calls },
     ghost bytes_room: { vec_len recorded.bytes + budget.left ≤ vec_capacity recorded.bytes },
@@ -47,7 +48,8 @@ pub struct MemoryWorld {
 impl MemoryWorld {
     ghost use Rattle.std.specs.Prelude.{IfOk, OnOk, OnErr};
     ghost use Rattle.dbpl_world.specs.declared.counts.Counts.{Counts};
-    ghost use Rattle.dbpl_world.specs.InMemory.{history_of, mounted_in, counts_of, rule_in, fresh_history, with_store};
+    ghost use Rattle.dbpl_world.specs.InMemory.{history_of, mounted_in, counts_of, rule_in, fresh_history, with_store_put};
+    ghost use Rattle.dbpl_world.specs.Tied.{contents_of};
 
     /// A world with this input and no stores. The calls with the numbers in `fails` fail, and those past `room`.
     pub fn make(
@@ -78,6 +80,47 @@ impl MemoryWorld {
             log: Vec::with_capacity(alloc, room)?,
             pages: Vec::with_capacity(alloc, room)?,
         })
+    }
+
+    /// Sets a store, before any call of the world. The last one of a name counts.
+    pub fn put_store(
+        &mut self,
+        alloc: Global,
+        name: &str,
+        log: &[u8],
+        pages: &[u8],
+    ) -> Result<(), NoMemory>
+        requires fresh { (rule_in self.old).calls ≡ 0 }
+        ensures ok { OnOk result (history_of self.new ≡ with_store_put name.now log.now pages.now (history_of self.old)) }
+        ensures err { OnErr result (history_of self.new ≡ history_of self.old) }
+        ensures mounted { mounted_in self.new ≡ mounted_in self.old }
+        ensures counts { counts_of self.new ≡ counts_of self.old }
+        ensures rule { rule_in self.new ≡ rule_in self.old }
+    {
+        let store = StoreBytes::with_room(alloc, name.as_bytes(), log, pages, 0)?;
+        self.stores.push(store)?;
+        self.put += 1;
+        Ok(())
+    }
+
+    /// A copy of the store of that name, as reads give it, with room for what is left.
+    fn opened(&self, alloc: Global, name: &[u8]) -> Result<StoreBytes, AllocError>
+        ensures name { IfOk result (λ store. store.name.items ≡ name.now) }
+        ensures parts { IfOk result (λ store. contents_of (mounted_in self.now) (self.now.log.items, self.now.pages.items) self.now.stores.items name.now ≡ (store.log.items, store.pages.items)) }
+        ensures room { IfOk result (λ store. (vec_len store.log + self.now.budget.left ≤ vec_capacity store.log) × (vec_len store.pages + self.now.budget.left ≤ vec_capacity store.pages)) }
+    {
+        match &self.name {
+            Some(mounted) if mounted.as_slice() == name => {
+                StoreBytes::with_room(
+                    alloc,
+                    name,
+                    self.log.as_slice(),
+                    self.pages.as_slice(),
+                    self.budget.left,
+                )
+            }
+            _ => StoreBytes::copy_of(alloc, self.stores.as_slice(), name, self.budget.left),
+        }
     }
 
     /// The bytes said.

@@ -1,15 +1,17 @@
 // The calls of a world in memory. Each is charged first; one that fails changes nothing but its count.
-ghost use Rattle.std.specs.Prelude.{◌≡◌, ℕ, ◌+◌, ◌-◌, ◌^◌, ◌<◌, ◌≤◌, ◌⊎◌, ◌↔◌, min, Bool, true, List, [], ◌∷◌, ◌++◌, map, length, take, drop, Option, Some, IsTrue, IsSome, IfOk, OnOk, OnErr};
+ghost use Rattle.std.specs.Prelude.{◌≡◌, ◌≢◌, ℕ, ◌+◌, ◌-◌, ◌^◌, ◌<◌, ◌≤◌, ◌⊎◌, ◌↔◌, min, Bool, true, List, [], ◌∷◌, ◌++◌, map, length, take, drop, Option, Some, IsTrue, IsSome, IfOk, OnOk, OnErr};
 ghost use Rattle.dbpl_world.specs.Images.{IsSmeared};
 ghost use Rattle.dbpl_world.specs.History.{History, Mounted, Took, Said, Noted, Wrote, Smeared, Synced, by_part, part_of, more, now};
 ghost use Rattle.dbpl_world.specs.Counts.{Rose, OnlyTakeFaults, OnlySayFaults, OnlyNoteFaults, OnlyDiskFaults, OnlyReads, take_failed, say_failed, note_failed, disk_failed, part_read, unraised};
 ghost use Rattle.dbpl_world.specs.InMemory.{history_of, mounted_in, counts_of, rule_in, RunsCall};
+ghost use Rattle.dbpl_world.specs.Budget.{MustFail, after_call};
 ghost use Rattle.std.proofs.Common.{sym};
 
 use super::MemoryWorld;
 use crate::counts::raised;
 use crate::made_call::{Call, MadeCall};
 use crate::part_bytes::{overwrite_part, part_bytes, read_into};
+use crate::store_bytes::StoreBytes;
 use crate::{Failed, MountErr, Part, World};
 use std::alloc::Global;
 use std::mem;
@@ -27,10 +29,46 @@ impl World for MemoryWorld {
 
     ghost reads_an_image = { λ world _. world.tied.images_are };
 
-    fn mount(&mut self, alloc: Global, name: &str) -> Result<(), MountErr> {
-        let _ = alloc;
-        let _ = name;
-        Err(MountErr::Memory)
+    fn mount(&mut self, alloc: Global, name: &str) -> Result<(), MountErr>
+        ensures ok { OnOk result (mounted_in self.new ≡ Some name.now) }
+        ensures told { OnOk result (history_of self.new ≡ more (history_of self.old) (Mounted name.now ∷ [])) }
+        ensures err { OnErr result (mounted_in self.new ≡ mounted_in self.old) }
+        ensures unchanged { OnErr result (history_of self.new ≡ history_of self.old) }
+        ensures counts { OnlyDiskFaults (counts_of self.old) (counts_of self.new) }
+
+        // It fails exactly where its rule says so. After want of memory all is as before.
+        ensures exact { (result ≡ Err MountErr.Failed) ↔ MustFail (rule_in self.old) 0 }
+        ensures failed { result ≡ Err MountErr.Failed → counts_of self.new ≡ disk_failed (counts_of self.old) }
+        ensures charged { result ≢ Err MountErr.Memory → rule_in self.new ≡ after_call (rule_in self.old) 0 }
+        ensures memory { result ≡ Err MountErr.Memory → counts_of self.new ≡ counts_of self.old }
+        ensures uncharged { result ≡ Err MountErr.Memory → rule_in self.new ≡ rule_in self.old }
+        ensures uncounted { OnOk result (counts_of self.new ≡ counts_of self.old) }
+    {
+        if !self.budget.allows(0, 0) {
+            let _ = self.budget.charge(0, 0);
+            self.counts.disk_faults = raised(self.counts.disk_faults);
+            return Err(MountErr::Failed);
+        }
+        let Ok(opened) = self.opened(alloc, name.as_bytes()) else {
+            return Err(MountErr::Memory);
+        };
+        let Ok(()) = self.stores.reserve(1) else {
+            return Err(MountErr::Memory);
+        };
+        let Ok(()) = self.recorded.reserve(self.budget.left + name.len()) else {
+            return Err(MountErr::Memory);
+        };
+        let made = MadeCall {
+            number: self.budget.calls,
+            call: Call::Mount(name.len()),
+        };
+        let _ = self.budget.charge(0, 0);
+        self.recorded.keep(made, name.as_bytes());
+        let known = mem::replace(&mut self.name, Some(opened.name));
+        let log = mem::replace(&mut self.log, opened.log);
+        let pages = mem::replace(&mut self.pages, opened.pages);
+        StoreBytes::set_aside(&mut self.stores, known, log, pages);
+        Ok(())
     }
 
     fn take(&mut self, room: &mut [u8]) -> Result<usize, Failed>
