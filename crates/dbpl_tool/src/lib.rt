@@ -10,3 +10,6 @@ mod running;
 mod sources;
 
 pub use command::dbpl;
+
+#[cfg(test)]
+mod tests;
