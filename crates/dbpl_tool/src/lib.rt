@@ -3,6 +3,7 @@
 
 mod asked;
 mod command;
+mod laws;
 mod noting;
 mod printing;
 mod report;
@@ -10,6 +11,7 @@ mod running;
 mod sources;
 
 pub use command::dbpl;
+pub use laws::meaning_is_steady;
 
 #[cfg(test)]
 mod tests;
