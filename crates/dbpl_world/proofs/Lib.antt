@@ -7,3 +7,4 @@ pub mod Recorded
 pub mod Replays
 pub mod Standing
 pub mod Torn
+pub mod WriteMoments

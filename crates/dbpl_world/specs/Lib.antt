@@ -9,3 +9,4 @@ pub mod InShelf
 pub mod InMemory
 pub mod Moments
 pub mod Tied
+pub mod Writing

@@ -5,6 +5,7 @@
 mod budget;
 mod call_record;
 mod counts;
+mod durable;
 mod failed;
 mod made_call;
 mod memory_shelf;
@@ -20,6 +21,7 @@ mod store_bytes;
 mod whole;
 
 pub use counts::Counts;
+pub use durable::write_and_sync;
 pub use failed::Failed;
 pub use memory_shelf::MemoryShelf;
 pub use memory_world::MemoryWorld;
