@@ -1,7 +1,10 @@
 pub mod CountLaws
 pub mod Fronts
 pub mod Images
+pub mod Moments
 pub mod Puts
 pub mod Recorded
 pub mod Replays
 pub mod Standing
+pub mod Torn
+pub mod WriteMoments

@@ -9,3 +9,5 @@ pub mod InShelf
 pub mod InMemory
 pub mod Moments
 pub mod Tied
+pub mod Unheard
+pub mod Writing
