@@ -168,8 +168,13 @@ static TEXTS: [(bool, &str, &str); 27] = [
 
 #[test]
 fn reads_only_modules(rt: HostRuntime) {
-    for (read_well, case, text) in TEXTS {
-        let refused = matches!(read(rt.alloc(), text.as_bytes()), Err(ReadErr::NotSmall));
-        assert_eq!(rt; refused, !read_well, "{case}");
+    for (is_module, case, text) in TEXTS {
+        let answer = read(rt.alloc(), text.as_bytes()).map(|_| ());
+        let expected = if is_module {
+            Ok(())
+        } else {
+            Err(ReadErr::NotSmall)
+        };
+        assert_eq!(rt; answer, expected, "{case}");
     }
 }
