@@ -1,12 +1,12 @@
 -- The words and signs that every module has.
-use Rattle.std.proofs.Common.{◌≡◌, ℕ, Bool, false, List, [], ◌∷◌, refl, Option, Some}
+use Rattle.std.proofs.Common.{◌≡◌, ℕ, false, List, refl}
 use Rattle.std.specs.Prelude.{codes}
 use Rattle.dbpl_base.specs.Spelling.{IsIdentifier, IsRow, Spells}
 use Rattle.dbpl_base.specs.Words.{reserved_words, signs}
 use Rattle.dbpl_base.specs.declared.lexeme.Lexeme.TheVariants.{Ident, Reserved}
 use Rattle.dbpl_tree.specs.Words.{comma, full_stop, in_out, left_parenthesis, right_parenthesis, semicolon, word_begin, word_end, word_from, word_import, word_module, write_ln, write_string}
 use Rattle.dbpl_reader.specs.Names.{is_reserved}
-use Rattle.dbpl_reader.specs.Tokens.{sign, word}
+use Rattle.dbpl_reader.specs.Tokens.{comma_byte, full_stop_byte, left_byte, right_byte, semicolon_byte, sign, word}
 use Rattle.dbpl_reader.proofs.Signs.{takes_sign}
 use Rattle.dbpl_reader.proofs.Tables.{no_row, reserved_is_identifier}
 use Rattle.dbpl_reader.proofs.Takes.{Takes}
@@ -61,22 +61,22 @@ takes_module = takes_reserved 22 (codes "MODULE") refl
 
 -- ---- signs
 
-pub takes_full_stop : Takes full_stop (λ text. sign 46 text)
+pub takes_full_stop : Takes full_stop (λ text. sign full_stop_byte text)
 unfolding signs
-takes_full_stop = takes_sign 17 46 refl
+takes_full_stop = takes_sign 17 full_stop_byte refl
 
-pub takes_comma : Takes comma (λ text. sign 44 text)
+pub takes_comma : Takes comma (λ text. sign comma_byte text)
 unfolding signs
-takes_comma = takes_sign 19 44 refl
+takes_comma = takes_sign 19 comma_byte refl
 
-pub takes_semicolon : Takes semicolon (λ text. sign 59 text)
+pub takes_semicolon : Takes semicolon (λ text. sign semicolon_byte text)
 unfolding signs
-takes_semicolon = takes_sign 20 59 refl
+takes_semicolon = takes_sign 20 semicolon_byte refl
 
-pub takes_left : Takes left_parenthesis (λ text. sign 40 text)
+pub takes_left : Takes left_parenthesis (λ text. sign left_byte text)
 unfolding signs
-takes_left = takes_sign 22 40 refl
+takes_left = takes_sign 22 left_byte refl
 
-pub takes_right : Takes right_parenthesis (λ text. sign 41 text)
+pub takes_right : Takes right_parenthesis (λ text. sign right_byte text)
 unfolding signs
-takes_right = takes_sign 23 41 refl
+takes_right = takes_sign 23 right_byte refl

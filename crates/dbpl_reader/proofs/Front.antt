@@ -1,17 +1,14 @@
 -- Which token stands at the front of a text, apart from its place, and which words, signs and strings are read there.
-use Rattle.std.proofs.Common.{◌≡◌, ◌≢◌, ◌⊎◌, ℕ, ◌+◌, ◌≤◌, ◌<◌, Bool, true, false, cond, ◌&&◌, ◌||◌, not, List, [], ◌∷◌, ◌++◌, length, refl, sym, ap, ap₂, ◌∙◌, subst, inl, inr, arith, Option, Some, None, append_assoc, length-append, eqb-true, eq-eqb}
-use Rattle.std.specs.List.{list_all, prefix_len}
-use Rattle.std.specs.Prelude.{◌==◌, take_while}
-use Rattle.std.specs.Str.{bytes_eq}
-use Rattle.std.proofs.lemmas.Bool.{and_from, and_parts, false_from_ne_true, false≢true, true≢false, or_cases, not-true, not_from_false}
+use Rattle.std.proofs.Common.{◌≡◌, ◌≢◌, ℕ, ◌<◌, Bool, true, false, List, [], ◌∷◌, ◌++◌, length, refl, sym, ap, ap₂, ◌∙◌, subst, arith, length-append}
+use Rattle.std.specs.List.{list_all}
+use Rattle.std.specs.Prelude.{take_while}
+use Rattle.std.proofs.lemmas.Bool.{and_from, and_parts, false_from_ne_true, true≢false}
 use Rattle.std.proofs.lemmas.List.Folds.{list_all-append}
-use Rattle.std.proofs.lemmas.Slice.Eq.{bytes_eq-Decides}
 use Rattle.dbpl_base.specs.Scans.{AreBlanks, IsLongest, OpensComment}
-use Rattle.dbpl_base.specs.Spelling.{IsIdentifier, IsQuoted, IsRow, Spells}
-use Rattle.dbpl_base.specs.Words.{is_blank, is_letter, is_word_byte, signs}
+use Rattle.dbpl_base.specs.Spelling.{IsIdentifier, Spells}
+use Rattle.dbpl_base.specs.Words.{is_blank, is_letter, is_word_byte}
 use Rattle.dbpl_base.specs.declared.lexeme.Lexeme.{Lexeme}
-use Rattle.dbpl_base.specs.declared.lexeme.Lexeme.TheVariants.{Ident, Text, Reserved, Sign}
-use Rattle.dbpl_reader.specs.Tokens.{after_blanks, drop_while, goes_on, is_text_byte, joins, next_word, quoted, sign, sign_at, word}
+use Rattle.dbpl_reader.specs.Tokens.{after_blanks, drop_while, next_word, word}
 use Rattle.dbpl_reader.proofs.Runs.{Stops, drop_while-append, rest_stops, run-and-rest, run_passes, take_while-append}
 use Rattle.dbpl_reader.proofs.Spellings.{AreApart, BeginsBy, begins, begins-append, begins_apart, first_byte, first_no_blank, identifier_begins, identifier_passes, identifier_spells, letter_word, word_some}
 
@@ -48,7 +45,7 @@ stands_after_blanks text lexeme word rest is spelt longest no_comment = record {
   between = run_passes is_blank text;
   spelt = spelt;
   longest = longest;
-  no_comment = no_comment
+  no_comment = no_comment;
 }
 
 -- a word that begins otherwise opens no comment

@@ -1,5 +1,5 @@
 -- Several tokens at the front of a text, one after another.
-use Rattle.std.proofs.Common.{◌≡◌, ◌≢◌, ℕ, ◌+◌, ◌≤◌, ◌<◌, List, [], ◌∷◌, ◌++◌, length, refl, sym, ap, ◌∙◌, subst, Option, Some, None, arith}
+use Rattle.std.proofs.Common.{◌≡◌, ℕ, ◌≤◌, ◌<◌, List, [], ◌∷◌, ◌++◌, length, refl, sym, subst, Option, Some, None, arith}
 use Rattle.dbpl_base.specs.declared.lexeme.Lexeme.{Lexeme}
 use Rattle.dbpl_reader.specs.Steps.{◌>>=◌}
 use Rattle.dbpl_reader.proofs.Front.{Stands, stands_shorter}
@@ -49,13 +49,13 @@ pub record TakesAll (lexemes : List Lexeme) (read : List ℕ → Option (List �
 pub takes_last : (lexeme : Lexeme) (read : List ℕ → Option (List ℕ)) → Takes lexeme read → TakesAll (lexeme ∷ []) read
 takes_last lexeme read takes = record {
   there = λ text rest h. takes.there text rest (subst (λ (after : List ℕ). Stands text lexeme after) h.2 h.1);
-  back = λ text rest e. (rest, takes.back text rest e, refl)
+  back = λ text rest e. (rest, takes.back text rest e, refl);
 }
 
 pub takes_then : (lexeme : Lexeme) (lexemes : List Lexeme) (read next : List ℕ → Option (List ℕ)) → Takes lexeme read → TakesAll lexemes next → TakesAll (lexeme ∷ lexemes) (λ text. read text >>= next)
 takes_then lexeme lexemes read next takes later = record {
   there = λ text rest h. rw (takes.there text h.0 h.1) (later.there h.0 rest h.2);
   back = λ text rest e.
-    let step = first_step (read text) next rest e in
-    (step.0, takes.back text step.0 step.1, later.back step.0 rest step.2)
+      let step = first_step (read text) next rest e in
+      (step.0, takes.back text step.0 step.1, later.back step.0 rest step.2);
 }

@@ -3,6 +3,7 @@ pub mod Front
 pub mod Leads
 pub mod ModuleLaw
 pub mod NameLaw
+pub mod OneLexeme
 pub mod PlaceLaw
 pub mod Runs
 pub mod Signs

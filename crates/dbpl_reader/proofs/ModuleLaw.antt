@@ -1,21 +1,19 @@
 -- A module that is read is one that the text spells.
-use Rattle.std.proofs.Common.{◌≡◌, ◌≢◌, ℕ, Bool, true, false, List, [], ◌∷◌, ◌++◌, refl, sym, ap, ◌∙◌, subst, Option, Some, None, append_assoc, append-nil}
+use Rattle.std.proofs.Common.{◌≡◌, ℕ, true, List, [], ◌∷◌, ◌++◌, refl, sym, ap, ◌∙◌, subst, Option, Some, None, append_assoc, append-nil}
 use Rattle.std.specs.List.{list_all}
 use Rattle.std.specs.Prelude.{codes, take_while}
 use Rattle.dbpl_base.specs.Places.{start_of}
-use Rattle.dbpl_base.specs.Scans.{AreBlanks, lexemes_of}
+use Rattle.dbpl_base.specs.Scans.{AreBlanks}
 use Rattle.dbpl_base.specs.Words.{is_blank}
 use Rattle.dbpl_base.specs.declared.lexeme.Lexeme.{Lexeme}
-use Rattle.dbpl_base.specs.declared.lexeme.Lexeme.TheVariants.{Finish, Ident, Reserved, Sign}
+use Rattle.dbpl_base.specs.declared.lexeme.Lexeme.TheVariants.{Finish, Ident, Reserved}
 use Rattle.dbpl_tree.specs.Program.{IsModuleName, IsSmall, SpellsProgram, spell, spell_heading, spell_statements}
-use Rattle.dbpl_tree.specs.Words.{comma, full_stop, in_out, semicolon, word_begin, word_end, word_from, word_import, word_module, write_ln, write_string}
+use Rattle.dbpl_tree.specs.Words.{comma, full_stop, in_out, semicolon, word_begin, word_end, word_from, word_import, write_ln, write_string}
 use Rattle.dbpl_tree.specs.declared.program.Program.{Program}
-use Rattle.dbpl_tree.specs.declared.statement.Statement.{Statement}
 use Rattle.dbpl_reader.specs.Modules.{ending, first_module, heading, imports}
 use Rattle.dbpl_reader.specs.Names.{module_name}
 use Rattle.dbpl_reader.specs.Statements.{statements}
-use Rattle.dbpl_reader.specs.Steps.{◌>>=◌}
-use Rattle.dbpl_reader.specs.Tokens.{after_blanks, sign, word}
+use Rattle.dbpl_reader.specs.Tokens.{after_blanks, semicolon_byte, sign, word}
 use Rattle.dbpl_reader.proofs.FixedWords.{takes_begin, takes_comma, takes_end, takes_from, takes_full_stop, takes_import, takes_in_out, takes_module, takes_semicolon, takes_write_ln, takes_write_string}
 use Rattle.dbpl_reader.proofs.Front.{Stands, stands_apart}
 use Rattle.dbpl_reader.proofs.Leads.{Leads, TakesAll, first_step, leads_append, leads_split, takes_last, takes_then}
@@ -55,7 +53,7 @@ unfolding heading
 leads_heading text name rest e =
     let first = first_step (word (codes "MODULE") text) _ (name, rest) e in
     let named = first_step (module_name first.0) _ (name, rest) first.2 in
-    let closed = first_step (sign 59 named.0.1) _ (name, rest) named.2 in
+    let closed = first_step (sign semicolon_byte named.0.1) _ (name, rest) named.2 in
     let imported = first_step (imports closed.0) _ (name, rest) closed.2 in
     let begun = first_step (word (codes "BEGIN") imported.0) _ (name, rest) imported.2 in
     let same = parts_found named.0.0 name begun.0 rest begun.2 in
@@ -74,10 +72,10 @@ unfolding ending
 takes_ending name h =
     takes_then word_end _ _ _ takes_end (takes_then (Ident name) _ _ _ (takes_word (Ident name) name h.identifier (refl, h.identifier, h.unreserved)) (takes_last full_stop _ takes_full_stop))
 
-no_semicolon : (row : ℕ) (text rest : List ℕ) → Stands text (Reserved row) rest → sign 59 text ≡ None
-no_semicolon row text rest s = none_from (sign 59 text) refl
+no_semicolon : (row : ℕ) (text rest : List ℕ) → Stands text (Reserved row) rest → sign semicolon_byte text ≡ None
+no_semicolon row text rest s = none_from (sign semicolon_byte text) refl
   where
-    none_from : (found : Option (List ℕ)) → sign 59 text ≡ found → found ≡ None
+    none_from : (found : Option (List ℕ)) → sign semicolon_byte text ≡ found → found ≡ None
     none_from None e = refl
     none_from (Some after) e =
         absurd (stands_apart text (Reserved row) semicolon rest after letter_no_sign s (takes_semicolon.back text after e))
@@ -98,7 +96,7 @@ first_module-leads program text rest small h =
     let body : LeadStatements parts.0 program.statements front.0 = record {
       some = small.some;
       leads = parts.2;
-      end = no_semicolon 11 front.0 front.2.0 front.2.1
+      end = no_semicolon 11 front.0 front.2.0 front.2.1;
     } in
     let said = statements-leads program.statements parts.0 front.0 body in
     let ended = (takes_ending name small.named).there front.0 rest front.2 in
@@ -149,7 +147,7 @@ spells_program text program rest e none =
       small = found.0;
       tokens = scanned.0;
       scanned = scanned.1;
-      spelt = scanned.2 ∙ spell-module program
+      spelt = scanned.2 ∙ spell-module program;
     }
 
 -- THE law, the other way: a module that the text spells is read, up to blanks

@@ -1,11 +1,11 @@
 -- The name of a module at the front of a text.
-use Rattle.std.proofs.Common.{◌≡◌, ◌≢◌, ℕ, Bool, true, false, ◌&&◌, ◌||◌, not, List, [], ◌∷◌, refl, sym, ap, ◌∙◌, subst, Option, Some, None}
-use Rattle.std.specs.List.{list_all, list_any}
+use Rattle.std.proofs.Common.{◌≡◌, ◌≢◌, ℕ, true, false, ◌&&◌, not, List, [], ◌∷◌, refl, sym, ap, ◌∙◌, subst, Some}
+use Rattle.std.specs.List.{list_all}
 use Rattle.std.specs.Str.{bytes_eq}
 use Rattle.std.proofs.lemmas.Bool.{and_from, and_parts, false_from_ne_true, false≢true, not-true, not_from_false, or_from, or_parts}
 use Rattle.std.proofs.lemmas.Slice.Eq.{bytes_eq-Decides}
-use Rattle.dbpl_base.specs.Spelling.{IsIdentifier, IsRow, Spells}
-use Rattle.dbpl_base.specs.Words.{is_letter, is_word_byte, reserved_words}
+use Rattle.dbpl_base.specs.Spelling.{IsIdentifier}
+use Rattle.dbpl_base.specs.Words.{is_word_byte, reserved_words}
 use Rattle.dbpl_base.specs.declared.lexeme.Lexeme.TheVariants.{Ident}
 use Rattle.dbpl_tree.specs.Program.{IsModuleName}
 use Rattle.dbpl_tree.specs.Words.{in_out, write_ln, write_string}
@@ -45,7 +45,7 @@ module_name_from_test name passes e =
       unreserved = no_row reserved_words name (not-true (is_reserved name) inner.1);
       unlike_in_out = bytes_differ in_out name first.0;
       unlike_write_string = bytes_differ write_string name second.0;
-      unlike_write_ln = bytes_differ write_ln name third.0
+      unlike_write_ln = bytes_differ write_ln name third.0;
     }
 
 pub test_from_module_name : (name : List ℕ) → IsModuleName name → may_name name ≡ true

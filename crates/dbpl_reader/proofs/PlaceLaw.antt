@@ -1,5 +1,5 @@
 -- Places are added to tokens that stand in turn, and dropped.
-use Rattle.std.proofs.Common.{◌≡◌, ◌≢◌, ℕ, List, [], ◌∷◌, ◌++◌, refl, sym, ap, ◌∙◌, subst}
+use Rattle.std.proofs.Common.{◌≡◌, ℕ, List, [], ◌∷◌, ◌++◌, refl, ap, subst}
 use Rattle.dbpl_base.specs.Places.{place_after}
 use Rattle.dbpl_base.specs.Scans.{AreBlanks, BeginsWith, ScansFrom, lexemes_of}
 use Rattle.dbpl_base.specs.declared.lexeme.Lexeme.{Lexeme}
@@ -22,9 +22,9 @@ scans_more place text lexeme rest s (next ∷ tokens) h = (
     spelt = s.spelt;
     longest = s.longest;
     no_comment = s.no_comment;
-    placed = refl
+    placed = refl;
   },
-  h
+  h,
 )
 
 -- tokens that stand in turn up to blanks are the text's tokens
@@ -44,7 +44,7 @@ stands_from_begins place text gap word rest token b = record {
   between = b.between;
   spelt = b.spelt;
   longest = b.longest;
-  no_comment = b.no_comment
+  no_comment = b.no_comment;
 }
 
 nothing_before : (lexemes : List Lexeme) (lexeme : Lexeme) → [] ≡ lexemes ++ lexeme ∷ [] → ⊥

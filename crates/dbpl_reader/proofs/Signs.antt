@@ -1,16 +1,15 @@
 -- Signs of one byte at the front of a text.
-use Rattle.std.proofs.Common.{◌≡◌, ◌≢◌, ◌⊎◌, ℕ, Bool, true, false, cond, ◌&&◌, ◌||◌, not, List, [], ◌∷◌, ◌++◌, refl, sym, ap, ◌∙◌, subst, inl, inr, Option, Some, None, eqb-true, eq-eqb}
-use Rattle.std.specs.Prelude.{◌==◌, codes}
-use Rattle.std.proofs.lemmas.Bool.{and_from, and_parts, false_from_ne_true, false≢true, not-true, not_from_false, or_cases, true≢false}
+use Rattle.std.proofs.Common.{◌≡◌, ◌⊎◌, ℕ, true, false, ◌&&◌, ◌||◌, not, List, [], ◌∷◌, ◌++◌, refl, sym, ◌∙◌, subst, inl, inr, Some, None, eqb-true, eq-eqb}
+use Rattle.std.specs.Prelude.{◌==◌}
+use Rattle.std.proofs.lemmas.Bool.{and_parts, false_from_ne_true, not-true, or_cases, true≢false}
 use Rattle.dbpl_base.specs.Scans.{IsLongest, OpensComment}
-use Rattle.dbpl_base.specs.Spelling.{IsRow, Spells}
+use Rattle.dbpl_base.specs.Spelling.{IsRow}
 use Rattle.dbpl_base.specs.Words.{signs}
-use Rattle.dbpl_base.specs.declared.lexeme.Lexeme.{Lexeme}
 use Rattle.dbpl_base.specs.declared.lexeme.Lexeme.TheVariants.{Sign}
 use Rattle.dbpl_reader.specs.Tokens.{after_blanks, goes_on, joins, sign, sign_at}
-use Rattle.dbpl_reader.proofs.Front.{Stands, after_blanks-stands, stands_after_blanks}
+use Rattle.dbpl_reader.proofs.Front.{after_blanks-stands, stands_after_blanks}
 use Rattle.dbpl_reader.proofs.Spellings.{one_row, sign_word}
-use Rattle.dbpl_reader.proofs.Tables.{is_joined, sign_begins, sign_is_joined}
+use Rattle.dbpl_reader.proofs.Tables.{sign_begins, sign_is_joined}
 use Rattle.dbpl_reader.proofs.Takes.{Takes, found_under}
 
 -- ---- two bytes that join
@@ -104,13 +103,13 @@ pub takes_sign : (row byte : ℕ) → IsRow signs row (byte ∷ []) → Takes (S
 unfolding sign
 takes_sign row byte is = record {
   there = λ text rest s.
-    let same : s.word ≡ byte ∷ [] = one_row signs row s.word (byte ∷ []) s.spelt is in
-    let front : after_blanks text ≡ byte ∷ rest = rw same at (after_blanks-stands text (Sign row) rest s) in
-    let longest : IsLongest (byte ∷ []) rest = rw same at s.longest in
-    let no_comment : OpensComment (byte ∷ rest) → ⊥ = rw same at s.no_comment in
-    let ends = sign_ends byte rest longest no_comment in
-    rw (front, eq-eqb byte byte refl, ends) refl;
+      let same : s.word ≡ byte ∷ [] = one_row signs row s.word (byte ∷ []) s.spelt is in
+      let front : after_blanks text ≡ byte ∷ rest = rw same at (after_blanks-stands text (Sign row) rest s) in
+      let longest : IsLongest (byte ∷ []) rest = rw same at s.longest in
+      let no_comment : OpensComment (byte ∷ rest) → ⊥ = rw same at s.no_comment in
+      let ends = sign_ends byte rest longest no_comment in
+      rw (front, eq-eqb byte byte refl, ends) refl;
   back = λ text rest e.
-    let found = sign_at_found byte (after_blanks text) rest e in
-    stands_after_blanks text (Sign row) (byte ∷ []) rest found.0 is (sign_longest row byte rest is found.1) (sign_no_comment byte rest found.1)
+      let found = sign_at_found byte (after_blanks text) rest e in
+      stands_after_blanks text (Sign row) (byte ∷ []) rest found.0 is (sign_longest row byte rest is found.1) (sign_no_comment byte rest found.1);
 }

@@ -1,8 +1,8 @@
 -- What the bytes of a word say of the lexeme that it spells.
-use Rattle.std.proofs.Common.{◌≡◌, ◌≢◌, ◌⊎◌, ℕ, ◌+◌, ◌≤◌, ◌<◌, Bool, true, false, ◌&&◌, ◌||◌, not, List, [], ◌∷◌, ◌++◌, length, refl, sym, ap, ◌∙◌, subst, inl, inr, ⊎_elim, arith, Option, Some, le-leb, leb-true, leb, eqb-true, eq-eqb, true≢false}
+use Rattle.std.proofs.Common.{◌≡◌, ◌≢◌, ◌⊎◌, ℕ, ◌≤◌, Bool, true, false, ◌&&◌, ◌||◌, not, List, [], ◌∷◌, ◌++◌, refl, sym, ◌∙◌, inl, inr, arith, Some, le-leb, leb-true, leb, eqb-true, eq-eqb, true≢false}
 use Rattle.std.specs.List.{list_all}
 use Rattle.std.specs.Prelude.{◌==◌}
-use Rattle.std.proofs.lemmas.Bool.{and_from, and_parts, false_from_ne_true, cases_Bool, false≢true, not-true, or_cases, or_left, or_right}
+use Rattle.std.proofs.lemmas.Bool.{and_from, and_parts, false_from_ne_true, false≢true, not-true, or_cases, or_left, or_right}
 use Rattle.dbpl_base.specs.Spelling.{AreDigits, AreHexadecimal, IsIdentifier, IsQuoted, IsRow, Spells}
 use Rattle.dbpl_base.specs.Words.{is_between, is_blank, is_digit, is_letter, is_octal, is_word_byte, reserved_words, signs}
 use Rattle.dbpl_base.specs.declared.lexeme.Lexeme.{Lexeme}

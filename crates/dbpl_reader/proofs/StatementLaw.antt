@@ -1,17 +1,15 @@
 -- Statements at the front of a text: what is read is what stands there.
-use Rattle.std.proofs.Common.{◌≡◌, ◌≢◌, ℕ, zero, suc, ◌+◌, ◌≤◌, ◌<◌, Bool, true, false, List, [], ◌∷◌, ◌++◌, length, refl, sym, ap, ◌∙◌, subst, Option, Some, None, arith, le_refl, append_assoc}
+use Rattle.std.proofs.Common.{◌≡◌, ◌≢◌, ℕ, zero, suc, ◌≤◌, ◌<◌, List, [], ◌∷◌, ◌++◌, length, refl, sym, ap, ◌∙◌, subst, Option, Some, None, arith, le_refl, append_assoc}
 use Rattle.std.specs.Prelude.{option_map}
-use Rattle.dbpl_base.specs.declared.lexeme.Lexeme.{Lexeme}
 use Rattle.dbpl_base.specs.declared.lexeme.Lexeme.TheVariants.{Ident, Text}
 use Rattle.dbpl_tree.specs.Program.{spell_statement, spell_statements}
 use Rattle.dbpl_tree.specs.Words.{left_parenthesis, right_parenthesis, semicolon, write_ln, write_string}
 use Rattle.dbpl_tree.specs.declared.statement.Statement.{Statement}
 use Rattle.dbpl_tree.specs.declared.statement.Statement.TheVariants.{WriteLn, WriteString}
 use Rattle.dbpl_reader.specs.Statements.{going_on, statement, statement_or, statements, statements_up_to, with_first, write_string_in}
-use Rattle.dbpl_reader.specs.Steps.{◌>>=◌}
-use Rattle.dbpl_reader.specs.Tokens.{quoted, sign, word}
+use Rattle.dbpl_reader.specs.Tokens.{left_byte, quoted, right_byte, semicolon_byte, sign, word}
 use Rattle.dbpl_reader.proofs.FixedWords.{takes_left, takes_right, takes_semicolon, takes_write_ln, takes_write_string}
-use Rattle.dbpl_reader.proofs.Front.{Stands, stands_shorter}
+use Rattle.dbpl_reader.proofs.Front.{stands_shorter}
 use Rattle.dbpl_reader.proofs.Leads.{Leads, first_step, leads_append, leads_shorter, leads_split}
 use Rattle.dbpl_reader.proofs.Strings.{quoted-stands, stands_quoted}
 use Rattle.dbpl_reader.proofs.Takes.{parts_found}
@@ -32,9 +30,9 @@ leads_write_string_in : (text string rest : List ℕ) → write_string_in text �
 unfolding write_string_in
 leads_write_string_in text string rest e =
     let name = first_step (word write_string text) _ (string, rest) e in
-    let left = first_step (sign 40 name.0) _ (string, rest) name.2 in
+    let left = first_step (sign left_byte name.0) _ (string, rest) name.2 in
     let inside = first_step (quoted left.0) _ (string, rest) left.2 in
-    let right = first_step (sign 41 inside.0.1) _ (string, rest) inside.2 in
+    let right = first_step (sign right_byte inside.0.1) _ (string, rest) inside.2 in
     let same = parts_found inside.0.0 string right.0 rest right.2 in
     let quote = rw same.0 at (stands_quoted left.0 inside.0.0 inside.0.1 inside.1) in
     (name.0, takes_write_string.back text name.0 name.1, (left.0, takes_left.back name.0 left.0 left.1, (inside.0.1, quote, (right.0, takes_right.back inside.0.1 right.0 right.1, same.1))))
@@ -75,7 +73,7 @@ statement_shorter (WriteString string) text rest h =
 -- ---- statements
 
 -- statements that stand at the front, without a semicolon behind them, are read if there is turn enough
-statements_up_to-leads : (most : ℕ) (ss : List Statement) (text rest : List ℕ) → ss ≢ [] → length text ≤ most → Leads text (spell_statements ss) rest → sign 59 rest ≡ None → statements_up_to most text ≡ Some (ss, rest)
+statements_up_to-leads : (most : ℕ) (ss : List Statement) (text rest : List ℕ) → ss ≢ [] → length text ≤ most → Leads text (spell_statements ss) rest → sign semicolon_byte rest ≡ None → statements_up_to most text ≡ Some (ss, rest)
 statements_up_to-leads zero [] text rest some enough h end = absurd (some refl)
 statements_up_to-leads zero (s ∷ []) text rest some enough h end =
     let shorter = statement_shorter s text rest h in
@@ -100,21 +98,21 @@ statements_up_to-leads (suc most) (s ∷ next ∷ ss) text rest some enough h en
 pub record LeadStatements (text : List ℕ) (ss : List Statement) (rest : List ℕ) : Type 0 where
   pub some : ss ≢ []
   pub leads : Leads text (spell_statements ss) rest
-  pub end : sign 59 rest ≡ None
+  pub end : sign semicolon_byte rest ≡ None
 
-one_statement : (s : Statement) (text rest : List ℕ) → statement text ≡ Some (s, rest) → sign 59 rest ≡ None → LeadStatements text (s ∷ []) rest
+one_statement : (s : Statement) (text rest : List ℕ) → statement text ≡ Some (s, rest) → sign semicolon_byte rest ≡ None → LeadStatements text (s ∷ []) rest
 one_statement s text rest e end = record {
   some = λ none. (let same : s ∷ [] ≡ [] = none in cc);
   leads = leads_statement s text rest e;
-  end = end
+  end = end;
 }
 
-more_statements : (s : Statement) (text middle after : List ℕ) (ss : List Statement) (rest : List ℕ) → statement text ≡ Some (s, middle) → sign 59 middle ≡ Some after → LeadStatements after ss rest → LeadStatements text (s ∷ ss) rest
+more_statements : (s : Statement) (text middle after : List ℕ) (ss : List Statement) (rest : List ℕ) → statement text ≡ Some (s, middle) → sign semicolon_byte middle ≡ Some after → LeadStatements after ss rest → LeadStatements text (s ∷ ss) rest
 more_statements s text middle after [] rest e more later = absurd (later.some refl)
 more_statements s text middle after (next ∷ ss) rest e more later = record {
   some = λ none. (let same : s ∷ next ∷ ss ≡ [] = none in cc);
   leads = leads_append (spell_statement s) (semicolon ∷ spell_statements (next ∷ ss)) text middle rest (leads_statement s text middle e) (after, takes_semicolon.back middle after more, later.leads);
-  end = later.end
+  end = later.end;
 }
 
 with_first_found : (first : Statement) (others : Option (List Statement × List ℕ)) (ss : List Statement) (rest : List ℕ) → with_first first others ≡ Some (ss, rest) → (more : List Statement) × (others ≡ Some (more, rest)) × (first ∷ more ≡ ss)
@@ -128,9 +126,9 @@ leads_statements_up_to : (most : ℕ) (ss : List Statement) (text rest : List �
 leads_statements_up_to zero ss text rest e = absurd (let none : None ≡ Some (ss, rest) = e in cc)
 leads_statements_up_to (suc most) ss text rest e =
     let step = first_step (statement text) _ (ss, rest) e in
-    behind_first most (leads_statements_up_to most) step.0 ss text rest step.1 (sign 59 step.0.1) refl step.2
+    behind_first most (leads_statements_up_to most) step.0 ss text rest step.1 (sign semicolon_byte step.0.1) refl step.2
   where
-    behind_first : (most : ℕ) → ((ss : List Statement) (text rest : List ℕ) → statements_up_to most text ≡ Some (ss, rest) → LeadStatements text ss rest) → (first : Statement × List ℕ) (ss : List Statement) (text rest : List ℕ) → statement text ≡ Some first → (more : Option (List ℕ)) → sign 59 first.1 ≡ more → going_on first (option_map (λ rest. statements_up_to most rest) more) ≡ Some (ss, rest) → LeadStatements text ss rest
+    behind_first : (most : ℕ) → ((ss : List Statement) (text rest : List ℕ) → statements_up_to most text ≡ Some (ss, rest) → LeadStatements text ss rest) → (first : Statement × List ℕ) (ss : List Statement) (text rest : List ℕ) → statement text ≡ Some first → (more : Option (List ℕ)) → sign semicolon_byte first.1 ≡ more → going_on first (option_map (λ rest. statements_up_to most rest) more) ≡ Some (ss, rest) → LeadStatements text ss rest
     behind_first most later first ss text rest is None ends e =
         let same = parts_found (first.0 ∷ []) ss first.1 rest e in
         let one = one_statement first.0 text first.1 is ends in
@@ -154,7 +152,7 @@ leads_statements ss text rest e = leads_statements_up_to (length text) ss text r
 -- ---- one statement after another
 
 -- one statement and no semicolon
-pub statements-one : (s : Statement) (text rest : List ℕ) → statement text ≡ Some (s, rest) → sign 59 rest ≡ None → statements text ≡ Some (s ∷ [], rest)
+pub statements-one : (s : Statement) (text rest : List ℕ) → statement text ≡ Some (s, rest) → sign semicolon_byte rest ≡ None → statements text ≡ Some (s ∷ [], rest)
 statements-one s text rest e end = statements-leads (s ∷ []) text rest (one_statement s text rest e end)
 
 -- no statement
@@ -172,7 +170,7 @@ same_if_found None (Some answer) h k = k answer refl
 same_if_found (Some answer) other h k = sym (h answer refl)
 
 -- what is found among so many statements is found by `statements`, behind the first one and its semicolon
-found_behind : (most : ℕ) (s : Statement) (text middle after : List ℕ) (read : List Statement × List ℕ) → statement text ≡ Some (s, middle) → sign 59 middle ≡ Some after → statements_up_to most text ≡ Some read → with_first s (statements after) ≡ Some read
+found_behind : (most : ℕ) (s : Statement) (text middle after : List ℕ) (read : List Statement × List ℕ) → statement text ≡ Some (s, middle) → sign semicolon_byte middle ≡ Some after → statements_up_to most text ≡ Some read → with_first s (statements after) ≡ Some read
 found_behind zero s text middle after read e more is = absurd (let none : None ≡ Some read = is in cc)
 found_behind (suc most) s text middle after read e more is =
     let behind : with_first s (statements_up_to most after) ≡ Some read = rw (e, more) at is in
@@ -180,14 +178,14 @@ found_behind (suc most) s text middle after read e more is =
     let later = leads_statements_up_to most found.0 after read.1 found.1 in
     rw (statements-leads found.0 after read.1 later) (ap (λ (ss : List Statement). Some (ss, read.1)) found.2)
 
-found_in_front : (s : Statement) (text middle after : List ℕ) (read : List Statement × List ℕ) → statement text ≡ Some (s, middle) → sign 59 middle ≡ Some after → with_first s (statements after) ≡ Some read → statements text ≡ Some read
+found_in_front : (s : Statement) (text middle after : List ℕ) (read : List Statement × List ℕ) → statement text ≡ Some (s, middle) → sign semicolon_byte middle ≡ Some after → with_first s (statements after) ≡ Some read → statements text ≡ Some read
 found_in_front s text middle after read e more is =
     let found = with_first_found s (statements after) read.0 read.1 is in
     let all = more_statements s text middle after found.0 read.1 e more (leads_statements found.0 after read.1 found.1) in
     rw (statements-leads (s ∷ found.0) text read.1 all) (ap (λ (ss : List Statement). Some (ss, read.1)) found.2)
 
 -- what is read behind one statement and its semicolon
-pub statements-more : (s : Statement) (text middle after : List ℕ) → statement text ≡ Some (s, middle) → sign 59 middle ≡ Some after → statements text ≡ with_first s (statements after)
+pub statements-more : (s : Statement) (text middle after : List ℕ) → statement text ≡ Some (s, middle) → sign semicolon_byte middle ≡ Some after → statements text ≡ with_first s (statements after)
 unfolding statements
 statements-more s text middle after e more =
     same_if_found (statements text) (with_first s (statements after)) (λ read is. found_behind (length text) s text middle after read e more is) (λ read is. found_in_front s text middle after read e more is)
@@ -211,15 +209,15 @@ behind-with_first front s (Some read) =
 pub turn_none : (front : List Statement) (start text : List ℕ) → behind front (statements text) ≡ statements start → statement text ≡ None → statements start ≡ None
 turn_none front start text so_far e = sym so_far ∙ ap (behind front) (statements-none text e)
 
-pub turn_one : (front : List Statement) (start text : List ℕ) (s : Statement) (rest : List ℕ) → behind front (statements text) ≡ statements start → statement text ≡ Some (s, rest) → sign 59 rest ≡ None → statements start ≡ Some (front ++ s ∷ [], rest)
+pub turn_one : (front : List Statement) (start text : List ℕ) (s : Statement) (rest : List ℕ) → behind front (statements text) ≡ statements start → statement text ≡ Some (s, rest) → sign semicolon_byte rest ≡ None → statements start ≡ Some (front ++ s ∷ [], rest)
 turn_one front start text s rest so_far e end =
     sym so_far ∙ ap (behind front) (statements-one s text rest e end)
 
-pub turn_more : (front : List Statement) (start text : List ℕ) (s : Statement) (middle after : List ℕ) → behind front (statements text) ≡ statements start → statement text ≡ Some (s, middle) → sign 59 middle ≡ Some after → behind (front ++ s ∷ []) (statements after) ≡ statements start
+pub turn_more : (front : List Statement) (start text : List ℕ) (s : Statement) (middle after : List ℕ) → behind front (statements text) ≡ statements start → statement text ≡ Some (s, middle) → sign semicolon_byte middle ≡ Some after → behind (front ++ s ∷ []) (statements after) ≡ statements start
 turn_more front start text s middle after so_far e more =
     sym (behind-with_first front s (statements after)) ∙ sym (ap (behind front) (statements-more s text middle after e more)) ∙ so_far
 
-pub turn_shorter : (text : List ℕ) (s : Statement) (middle after : List ℕ) → statement text ≡ Some (s, middle) → sign 59 middle ≡ Some after → length after < length text
+pub turn_shorter : (text : List ℕ) (s : Statement) (middle after : List ℕ) → statement text ≡ Some (s, middle) → sign semicolon_byte middle ≡ Some after → length after < length text
 turn_shorter text s middle after e more =
     let first = statement_shorter s text middle (leads_statement s text middle e) in
     let second = stands_shorter middle semicolon after (takes_semicolon.back middle after more) in

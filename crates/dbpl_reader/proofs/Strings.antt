@@ -1,13 +1,12 @@
 -- Strings at the front of a text.
-use Rattle.std.proofs.Common.{◌≡◌, ◌≢◌, ◌⊎◌, ℕ, Bool, true, false, cond, ◌&&◌, ◌||◌, not, List, [], ◌∷◌, ◌++◌, refl, sym, ap, ap₂, ◌∙◌, subst, inl, inr, Option, Some, None, append_assoc, eqb-true, eq-eqb}
+use Rattle.std.proofs.Common.{◌≡◌, ◌⊎◌, ℕ, Bool, true, false, cond, List, [], ◌∷◌, ◌++◌, refl, sym, ap, ap₂, ◌∙◌, subst, inl, inr, Option, Some, None, append_assoc, eqb-true, eq-eqb}
 use Rattle.std.specs.List.{list_all}
 use Rattle.std.specs.Prelude.{◌==◌, take_while}
-use Rattle.std.proofs.lemmas.Bool.{and_from, and_parts, false≢true, or_cases, or_left, or_right, true≢false}
-use Rattle.dbpl_base.specs.Scans.{IsLongest, OpensComment}
-use Rattle.dbpl_base.specs.Spelling.{IsQuoted, Spells}
-use Rattle.dbpl_base.specs.declared.lexeme.Lexeme.{Lexeme}
+use Rattle.std.proofs.lemmas.Bool.{or_left, or_right}
+use Rattle.dbpl_base.specs.Scans.{IsLongest}
+use Rattle.dbpl_base.specs.Spelling.{IsQuoted, is_text_byte}
 use Rattle.dbpl_base.specs.declared.lexeme.Lexeme.TheVariants.{Text}
-use Rattle.dbpl_reader.specs.Tokens.{after_blanks, closed, drop_while, is_text_byte, quoted, quoted_at}
+use Rattle.dbpl_reader.specs.Tokens.{after_blanks, closed, drop_while, quoted, quoted_at}
 use Rattle.dbpl_reader.proofs.Front.{Stands, after_blanks-stands, begins_no_comment, stands_after_blanks}
 use Rattle.dbpl_reader.proofs.Runs.{Stops, drop_while-append, run-and-rest, run_passes, take_while-append}
 use Rattle.dbpl_reader.proofs.Spellings.{is_quote, quote_parts, quote_word}
@@ -67,7 +66,7 @@ quoted_at_found (quote ∷ behind) text rest e =
       quote = quote;
       is = found.0;
       split = ap (λ others. quote ∷ others) (sym (run-and-rest (is_text_byte quote) behind) ∙ ap₂ (λ (a b : List ℕ). a ++ b) both.0 both.1);
-      passes = subst (λ (front : List ℕ). list_all (is_text_byte quote) front ≡ true) both.0 (run_passes (is_text_byte quote) behind)
+      passes = subst (λ (front : List ℕ). list_all (is_text_byte quote) front ≡ true) both.0 (run_passes (is_text_byte quote) behind);
     }
 
 -- a string ends with its closing quote, so nothing longer begins like it

@@ -1,12 +1,12 @@
 -- Rows of a table of words, and the tables of reserved words and of signs.
-use Rattle.std.proofs.Common.{◌≡◌, ◌≢◌, ◌⊎◌, ℕ, zero, suc, Bool, true, false, ◌&&◌, ◌||◌, not, List, [], ◌∷◌, refl, sym, ◌∙◌, subst, inl, inr, Option, Some, None}
+use Rattle.std.proofs.Common.{◌≡◌, ◌⊎◌, ℕ, zero, suc, Bool, true, false, ◌&&◌, not, List, [], ◌∷◌, refl, sym, ◌∙◌, inl, inr, Some, None}
 use Rattle.std.specs.List.{list_all, list_any}
 use Rattle.std.specs.Str.{bytes_eq}
 use Rattle.std.specs.Prelude.{◌==◌}
 use Rattle.std.proofs.lemmas.Bool.{and_parts, cases_Bool, false≢true, or_cases, or_parts}
 use Rattle.std.proofs.lemmas.Slice.Eq.{bytes_eq-Decides}
 use Rattle.dbpl_base.specs.Spelling.{IsIdentifier, IsRow}
-use Rattle.dbpl_base.specs.Words.{is_blank, is_digit, is_letter, is_word_byte, reserved_words, signs}
+use Rattle.dbpl_base.specs.Words.{is_blank, is_letter, is_word_byte, reserved_words, signs}
 use Rattle.dbpl_reader.specs.Tokens.{joins}
 
 -- what a test says of all rows, it says of each

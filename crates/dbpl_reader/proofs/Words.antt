@@ -1,15 +1,15 @@
 -- Words of letters and digits at the front of a text.
-use Rattle.std.proofs.Common.{◌≡◌, ◌≢◌, ℕ, Bool, true, false, cond, List, [], ◌∷◌, refl, sym, ap, ◌∙◌, subst, Option, Some, None}
+use Rattle.std.proofs.Common.{◌≡◌, ◌≢◌, ℕ, List, refl, sym, ◌∙◌, subst, Some, None}
 use Rattle.std.specs.Str.{bytes_eq}
 use Rattle.std.proofs.lemmas.Bool.{false_from_ne_true}
 use Rattle.std.proofs.lemmas.Slice.Eq.{bytes_eq-Decides}
-use Rattle.dbpl_base.specs.Spelling.{IsIdentifier, IsRow, Spells}
+use Rattle.dbpl_base.specs.Spelling.{IsIdentifier, Spells}
 use Rattle.dbpl_base.specs.Words.{is_digit, is_letter, reserved_words}
 use Rattle.dbpl_base.specs.declared.lexeme.Lexeme.{Lexeme}
 use Rattle.dbpl_base.specs.declared.lexeme.Lexeme.TheVariants.{Ident, Number, CharCode, Text, Reserved, Sign, Finish}
 use Rattle.dbpl_reader.specs.Tokens.{next_word, word}
 use Rattle.dbpl_reader.proofs.Front.{Stands, next_word-stands, stands_next_word}
-use Rattle.dbpl_reader.proofs.Spellings.{BeginsBy, begins, begins_apart, first_byte, identifier_begins, is_quote, letter_no_digit, letter_no_quote, letter_no_sign, one_identifier, one_row}
+use Rattle.dbpl_reader.proofs.Spellings.{begins_apart, first_byte, identifier_begins, is_quote, letter_no_digit, letter_no_quote, letter_no_sign, one_identifier, one_row}
 use Rattle.dbpl_reader.proofs.Tables.{is_sign_byte}
 use Rattle.dbpl_reader.proofs.Takes.{Takes, found_under}
 
@@ -32,13 +32,13 @@ pub takes_word : (lexeme : Lexeme) (name : List ℕ) → IsIdentifier name → S
 unfolding word
 takes_word lexeme name h spelt = record {
   there = λ text rest s.
-    let same = one_word lexeme name s.word h spelt s.spelt in
-    let next = next_word-stands text lexeme rest s (rw same h) in
-    rw (next, (bytes_eq-Decides s.word name).1 same) refl;
+      let same = one_word lexeme name s.word h spelt s.spelt in
+      let next = next_word-stands text lexeme rest s (rw same h) in
+      rw (next, (bytes_eq-Decides s.word name).1 same) refl;
   back = λ text rest e.
-    let found = found_under (bytes_eq (next_word text).0 name) (next_word text).1 rest e in
-    let same = (bytes_eq-Decides (next_word text).0 name).0 found.0 in
-    subst (λ (after : List ℕ). Stands text lexeme after) found.1 (stands_next_word text lexeme (rw same h) (rw same spelt))
+      let found = found_under (bytes_eq (next_word text).0 name) (next_word text).1 rest e in
+      let same = (bytes_eq-Decides (next_word text).0 name).0 found.0 in
+      subst (λ (after : List ℕ). Stands text lexeme after) found.1 (stands_next_word text lexeme (rw same h) (rw same spelt));
 }
 
 -- one word stands at the front, and no other

@@ -5,7 +5,7 @@ use Rattle.dbpl_tree.specs.declared.program.Program.{Program}
 use Rattle.dbpl_reader.specs.Names.{module_name}
 use Rattle.dbpl_reader.specs.Statements.{statements}
 use Rattle.dbpl_reader.specs.Steps.{◌>>=◌}
-use Rattle.dbpl_reader.specs.Tokens.{sign, word}
+use Rattle.dbpl_reader.specs.Tokens.{comma_byte, full_stop_byte, semicolon_byte, sign, word}
 
 -- what follows the imports
 unfoldable pub imports : List ℕ → Option (List ℕ)
@@ -14,16 +14,16 @@ imports text = do
   rest ← word in_out rest
   rest ← word (codes "IMPORT") rest
   rest ← word write_string rest
-  rest ← sign 44 rest
+  rest ← sign comma_byte rest
   rest ← word write_ln rest
-  sign 59 rest
+  sign semicolon_byte rest
 
 -- the name of the module, and its body
 unfoldable pub heading : List ℕ → Option (List ℕ × List ℕ)
 heading text = do
   rest ← word (codes "MODULE") text
   named ← module_name rest
-  rest ← sign 59 named.1
+  rest ← sign semicolon_byte named.1
   rest ← imports rest
   rest ← word (codes "BEGIN") rest
   Some (named.0, rest)
@@ -33,7 +33,7 @@ unfoldable pub ending : List ℕ → List ℕ → Option (List ℕ)
 ending name text = do
   rest ← word (codes "END") text
   rest ← word name rest
-  sign 46 rest
+  sign full_stop_byte rest
 
 -- the first module, and what follows it
 unfoldable pub first_module : List ℕ → Option (Program × List ℕ)

@@ -4,15 +4,15 @@ use Rattle.dbpl_tree.specs.Words.{write_ln, write_string}
 use Rattle.dbpl_tree.specs.declared.statement.Statement.{Statement}
 use Rattle.dbpl_tree.specs.declared.statement.Statement.TheVariants.{WriteLn, WriteString}
 use Rattle.dbpl_reader.specs.Steps.{◌>>=◌}
-use Rattle.dbpl_reader.specs.Tokens.{quoted, sign, word}
+use Rattle.dbpl_reader.specs.Tokens.{left_byte, quoted, right_byte, semicolon_byte, sign, word}
 
 -- the string of a WriteString, and what follows the statement
 unfoldable pub write_string_in : List ℕ → Option (List ℕ × List ℕ)
 write_string_in text = do
   rest ← word write_string text
-  rest ← sign 40 rest
+  rest ← sign left_byte rest
   string ← quoted rest
-  rest ← sign 41 string.1
+  rest ← sign right_byte string.1
   Some (string.0, rest)
 
 abbrev pub statement_or : Option (List ℕ) → Option (List ℕ × List ℕ) → Option (Statement × List ℕ)
@@ -39,7 +39,7 @@ abbrev pub statements_up_to : ℕ → List ℕ → Option (List Statement × Lis
 statements_up_to zero text = None
 statements_up_to (suc most) text = do
   first ← statement text
-  going_on first (option_map (λ rest. statements_up_to most rest) (sign 59 first.1))
+  going_on first (option_map (λ rest. statements_up_to most rest) (sign semicolon_byte first.1))
 
 -- the statements up to the first that no semicolon follows, and what follows that one
 unfoldable pub statements : List ℕ → Option (List Statement × List ℕ)

@@ -6,6 +6,8 @@ mod module;
 mod names;
 mod read_err;
 mod statements;
+#[cfg(test)]
+mod tests;
 mod tokens;
 
 pub use module::read;

@@ -62,7 +62,6 @@ static RESERVED_WORDS: [&[u8]; 50] = [
 /// The names that a module of the form that is read so far imports.
 static IMPORTED: [&[u8]; 3] = [b"InOut", b"WriteString", b"WriteLn"];
 
-#[tactic(auto, unfolding(crate::specs::Names::is_reserved))]
 fn is_reserved(name: &[u8]) -> bool
     ensures { result ≡ spec.is_reserved name.now }
 {

@@ -3,7 +3,7 @@
 ghost use Rattle.std.specs.Prelude.{◌≡◌, ◌≤◌, length};
 ghost use Rattle.std.specs.List.{prefix_len};
 ghost use Rattle.std.specs.Option.{option_copied, option_map};
-ghost use Rattle.dbpl_base.specs.Spelling.{is_text_byte};
+ghost use Rattle.dbpl_base.specs.Spelling as spelling;
 ghost use Rattle.dbpl_base.specs.Words as bytes;
 ghost use Rattle.dbpl_reader.specs.Tokens as spec;
 
@@ -23,7 +23,7 @@ fn is_word_byte(byte: u8) -> bool
 
 /// What a string in this quote may hold.
 fn is_text_byte(quote: u8, byte: u8) -> bool
-    ensures { result ≡ spec.is_text_byte quote byte }
+    ensures { result ≡ spelling.is_text_byte quote byte }
 {
     byte != quote && byte != b'\n' && byte != b'\r'
 }
@@ -61,7 +61,7 @@ fn word_length(text: &[u8]) -> usize
 
 /// How many bytes that a string in this quote may hold stand at the front.
 fn text_length(quote: u8, text: &[u8]) -> usize
-    ensures count { result ≡ prefix_len (spec.is_text_byte quote) text.now }
+    ensures count { result ≡ prefix_len (spelling.is_text_byte quote) text.now }
     ensures within { result ≤ length text.now }
 {
     text.iter()

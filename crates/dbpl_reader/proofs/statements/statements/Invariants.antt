@@ -1,3 +1,4 @@
+-- Where the loop over the statements stands.
 use Rattle.std.proofs.Common.{◌≡◌, length}
 use Rattle.dbpl_reader.specs.Statements as spec
 use Rattle.dbpl_reader.proofs.StatementLaw.{behind}
