@@ -18,9 +18,15 @@ use words::command_words;
 fn main(rt: HostRuntime) -> ExitCode {
     let alloc = rt.alloc();
     let mut shelf = FileShelf::new(rt);
-    let mut world = RealWorld::new(rt);
+    let mut world = RealWorld::new(rt, rt.stdin(), rt.stdout(), rt.stderr());
     let status = match command_words(alloc, &rt) {
-        Ok(words) => run::<Brand, _, _>(alloc, words.as_slice(), &mut shelf, &mut world, Blank::new(1)),
+        Ok(words) => run::<Brand, _, _>(
+            alloc,
+            words.as_slice(),
+            &mut shelf,
+            &mut world,
+            Blank::new(1),
+        ),
         Err(_) => Status::Memory,
     };
     ExitCode::from(status.code())

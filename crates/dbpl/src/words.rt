@@ -17,7 +17,7 @@ pub fn command_words(alloc: Global, rt: &impl Env) -> Result<List<Name>, Memory>
 
 /// The word at this position, or nothing behind the last one.
 fn word_at(alloc: Global, rt: &impl Env, position: usize) -> Result<Option<Name>, Memory> {
-    for doubled in 8..63 {
+    for doubled in 8u32..63 {
         let mut word = vec![in alloc; 0; 1usize << doubled]?;
         match rt.arg(position, word.as_mut_slice()) {
             Ok(count) => {
