@@ -1,3 +1,4 @@
+pub mod Ends
 pub mod FixedWords
 pub mod Front
 pub mod Leads

@@ -8,6 +8,7 @@ use Rattle.dbpl_base.specs.Spelling.{IsDecimalOf, IsHexadecimalOf, IsOctalOf, Is
 use Rattle.dbpl_base.specs.Words.{is_digit, is_letter, reserved_words, signs}
 use Rattle.dbpl_base.specs.declared.lexeme.Lexeme.{Lexeme}
 use Rattle.dbpl_base.specs.declared.lexeme.Lexeme.TheVariants.{Ident, Number, CharCode, Text, Reserved, Sign, Finish}
+use Rattle.dbpl_reader.proofs.Ends.{last_parts}
 use Rattle.dbpl_reader.proofs.Front.{Stands, after_blanks-stands}
 use Rattle.dbpl_reader.proofs.Spellings.{AreApart, BeginsBy, begins, digit_no_quote, digit_no_sign, first_byte, is_quote, letter_no_digit, letter_no_quote, letter_no_sign, quote_no_sign}
 use Rattle.dbpl_reader.proofs.Tables.{is_sign_byte, no_row}
@@ -93,30 +94,6 @@ unfolding signs
 signs_are_distinct = refl
 
 -- ---- numbers
-
-nothing_before : (xs : List ℕ) (x : ℕ) → [] ≡ xs ++ x ∷ [] → ⊥
-nothing_before [] x e = cc
-nothing_before (y ∷ xs) x e = cc
-
--- the last element, and those before it
-last_parts : (xs ys : List ℕ) (x y : ℕ) → xs ++ x ∷ [] ≡ ys ++ y ∷ [] → (xs ≡ ys) × (x ≡ y)
-last_parts [] [] x y e =
-    let same : x ∷ [] ≡ y ∷ [] = e in
-    (refl, cc)
-last_parts [] (b ∷ ys) x y e =
-    let same : x ∷ [] ≡ b ∷ (ys ++ y ∷ []) = e in
-    let none : [] ≡ ys ++ y ∷ [] = cc in
-    absurd (nothing_before ys y none)
-last_parts (a ∷ xs) [] x y e =
-    let same : y ∷ [] ≡ a ∷ (xs ++ x ∷ []) = sym e in
-    let none : [] ≡ xs ++ x ∷ [] = cc in
-    absurd (nothing_before xs x none)
-last_parts (a ∷ xs) (b ∷ ys) x y e =
-    let same : a ∷ (xs ++ x ∷ []) ≡ b ∷ (ys ++ y ∷ []) = e in
-    let first : a ≡ b = cc in
-    let behind : xs ++ x ∷ [] ≡ ys ++ y ∷ [] = cc in
-    let later = last_parts xs ys x y behind in
-    (rw (first, later.0) refl, later.1)
 
 -- a word that ends in no digit isn't decimal
 no_decimal : (n letter : ℕ) (digits word : List ℕ) → IsDecimalOf n word → word ≡ digits ++ letter ∷ [] → is_digit letter ≡ false → ⊥

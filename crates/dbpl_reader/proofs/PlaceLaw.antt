@@ -6,6 +6,7 @@ use Rattle.dbpl_base.specs.declared.lexeme.Lexeme.{Lexeme}
 use Rattle.dbpl_base.specs.declared.lexeme.Lexeme.TheVariants.{Finish}
 use Rattle.dbpl_base.specs.declared.place.Place.{Place}
 use Rattle.dbpl_base.specs.declared.token.Token.{Token}
+use Rattle.dbpl_reader.proofs.Ends.{nothing_before}
 use Rattle.dbpl_reader.proofs.Front.{Stands}
 use Rattle.dbpl_reader.proofs.Leads.{Leads}
 
@@ -46,10 +47,6 @@ stands_from_begins place text gap word rest token b = record {
   longest = b.longest;
   no_comment = b.no_comment;
 }
-
-nothing_before : (lexemes : List Lexeme) (lexeme : Lexeme) → [] ≡ lexemes ++ lexeme ∷ [] → ⊥
-nothing_before [] lexeme e = cc
-nothing_before (first ∷ lexemes) lexeme e = cc
 
 -- the text's tokens stand in turn, up to blanks
 pub leads_from_scans : (lexemes : List Lexeme) (place : Place) (text : List ℕ) (tokens : List Token) → ScansFrom AreBlanks place text tokens → lexemes_of tokens ≡ lexemes ++ Finish ∷ [] → (rest : List ℕ) × Leads text lexemes rest × AreBlanks rest

@@ -15,6 +15,7 @@ write_string_in text = do
   rest ← sign right_byte string.1
   Some (string.0, rest)
 
+-- WriteLn, if its word stands there, and else the WriteString of this string
 abbrev pub statement_or : Option (List ℕ) → Option (List ℕ × List ℕ) → Option (Statement × List ℕ)
 statement_or (Some rest) string = Some (WriteLn, rest)
 statement_or None (Some string) = Some (WriteString string.0, string.1)

@@ -65,6 +65,7 @@ fn module(alloc: Global, text: &[u8]) -> Result<(Program, &[u8]), ReadErr>
 
 /// The module that the text spells. So far it reads
 /// `MODULE m ; FROM InOut IMPORT WriteString , WriteLn ; BEGIN s ; .. ; s END m .`
+/// It takes memory for the tree alone.
 pub fn read(alloc: Global, text: &[u8]) -> Result<Program, ReadErr>
     ensures found { IfOk result (λ program. SpellsProgram 0 text.now program) }
     ensures only { IfOk result (λ program. (other : Program) → SpellsProgram 0 text.now other → other ≡ program) }
