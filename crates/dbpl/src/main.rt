@@ -7,7 +7,7 @@ ghost use Rattle.std.specs.Prelude.{◌≡◌, ◌<◌};
 mod words;
 
 use dbpl_base::{Name, Status, Steps};
-use dbpl_tool::dbpl;
+use dbpl_tool::{dbpl, note_report};
 use dbpl_world::{FileShelf, RealWorld, Shelf, World};
 use std::alloc::Global;
 use std::marker::Brand;
@@ -27,7 +27,10 @@ fn main(rt: HostRuntime) -> ExitCode {
             &mut world,
             Blank::new(1),
         ),
-        Err(_) => Status::Memory,
+        Err(_) => {
+            let _ = note_report(&Status::Memory, &mut world);
+            Status::Memory
+        }
     };
     ExitCode::from(status.code())
 }

@@ -10,5 +10,5 @@ mod statements;
 mod tests;
 mod tokens;
 
-pub use module::read;
+pub use module::{one_module, read};
 pub use read_err::ReadErr;

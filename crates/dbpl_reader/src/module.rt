@@ -1,5 +1,5 @@
 //! A module as a whole: its heading, its body and its end.
-ghost use Rattle.std.specs.Prelude.{◌≡◌, ◌≢◌, IfOk, IfErr};
+ghost use Rattle.std.specs.Prelude.{◌≡◌, ◌≢◌, ℕ, List, IfOk, IfErr};
 ghost use Rattle.std.specs.Option.{option_copied, option_map};
 ghost use Rattle.dbpl_tree.specs.Program.{SpellsProgram};
 ghost use Rattle.dbpl_tree.specs.declared.program.Program.{Program};
@@ -77,4 +77,10 @@ pub fn read(alloc: Global, text: &[u8]) -> Result<Program, ReadErr>
     } else {
         Err(ReadErr::NotSmall)
     }
+}
+
+/// A law: two modules that one text spells are equal.
+pub fn one_module()
+    ensures { (text : List ℕ) (first second : Program) → SpellsProgram 0 text first → SpellsProgram 0 text second → first ≡ second }
+{
 }

@@ -58,7 +58,8 @@ IsNotRead text (status.Refused place rule) = (place ≡ start_of 0) × (rule ≡
 IsNotRead text status.Memory = Unit {0}
 IsNotRead text _ = ⊥
 
--- THE causes: why a command that noted bytes of which N holds was answered so, by cases. The cases exclude each other.
+-- THE causes: why a command that noted bytes of which N holds was answered so, by cases. Want of memory is free, and a
+-- fault may stand beside another cause; where the files are told, the other cases exclude each other.
 abbrev pub Caused : Run → (List ℕ → Type 0) → Status → Type 0
 Caused run N status.Done =
     (file text : List ℕ) × (program : Program) × Reads run file text × IsTheModule text program

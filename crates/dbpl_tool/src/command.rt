@@ -61,6 +61,9 @@ pub fn dbpl<W: World, S: Shelf, L: Ledger>(
     ensures out_fault_only { result ≡ Status.OutFault → Rose (W.counts world.old).say_faults (W.counts world.new).say_faults }
 
     // What is left as it was.
+    ensures untouched { IsSilent result → (W.counts world.new).say_faults ≡ (W.counts world.old).say_faults }
+    ensures unnoted { result ≡ Status.Done → (W.counts world.new).note_faults ≡ (W.counts world.old).note_faults }
+    ensures unasked { result ≡ Status.BadWords → shelf.new ≡ shelf.old }
     ensures silent { IsTrue W.tells → IsSilent result → EachMoment (SaidSince (now (W.history world.old)).said (λ said. said ≡ [])) (W.history world.old) (W.history world.new) }
     ensures noted { IsTrue W.tells → NotedSince (now (W.history world.old)).noted (Reports (W.counts world.old) (W.counts world.new) result) (now (W.history world.new)) }
     ensures events { IsTrue W.tells → (said noted : List ℕ) × (W.history world.new ≡ more (W.history world.old) (map Said said ++ map Noted noted)) }

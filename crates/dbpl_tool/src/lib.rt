@@ -12,6 +12,7 @@ mod sources;
 
 pub use command::dbpl;
 pub use laws::meaning_is_steady;
+pub use report::note_report;
 
 #[cfg(test)]
 mod tests;

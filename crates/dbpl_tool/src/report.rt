@@ -13,6 +13,7 @@ use itoa::Buffer;
 pub fn note_report<W: World>(status: &Status, world: &mut W) -> Result<(), Failed>
     ensures ok { IsTrue W.tells → OnOk result (W.history world.new ≡ more (W.history world.old) (map Noted (report status.now))) }
     ensures err { IsTrue W.tells → OnErr result ((n : ℕ) × (W.history world.new ≡ more (W.history world.old) (map Noted (take n (report status.now))))) }
+    ensures done { status.now ≡ Status.Done → world.new ≡ world.old }
     ensures same { W.mounted world.new ≡ W.mounted world.old }
     ensures counts { OnlyNoteFaults (W.counts world.old) (W.counts world.new) }
     ensures cause { OnErr result (Rose (W.counts world.old).note_faults (W.counts world.new).note_faults) }

@@ -1,6 +1,6 @@
 // The work of a command, from its words to its answer. Nothing is noted here.
 ghost use Rattle.std.specs.Prelude.{◌≡◌, ◌≤◌, []};
-ghost use Rattle.dbpl_tool.specs.Answers.{Caused};
+ghost use Rattle.dbpl_tool.specs.Answers.{Caused, IsSilent};
 ghost use Rattle.dbpl_world.specs.Counts.{OnlySayFaults};
 
 use crate::asked::asked;
@@ -28,6 +28,8 @@ pub fn run<W: World, S: Shelf>(
       before = W.history world.old;
       after = W.history world.new;
     }) (λ noted. noted ≡ []) result }
+    ensures quiet { IsSilent result → world.new ≡ world.old }
+    ensures unasked { result ≡ Status.BadWords → shelf.new ≡ shelf.old }
     ensures same { W.mounted world.new ≡ W.mounted world.old }
     ensures counts { OnlySayFaults (W.counts world.old) (W.counts world.new) }
     ensures files { S.files shelf.new ≡ S.files shelf.old }

@@ -219,6 +219,7 @@ fn a_file_past_the_limit(rt: HostRuntime) -> Result<(), Fail> {
     let (status, world) = command(rt.alloc(), RUN, text.as_slice(), &[], &[])?;
     assert_eq!(rt; status.code(), 17);
     assert_eq!(rt; world.noted(), b"file too long hello.mod\n".as_slice());
+    assert_eq!(rt; world.said(), b"".as_slice());
     Ok(())
 }
 
