@@ -1,9 +1,9 @@
 -- Examples of what a stop may leave of a part of ten bytes, and of what it may not.
-use Rattle.std.proofs.Common.{◌≡◌, ◌≢◌, ℕ, zero, suc, ◌+◌, ◌<◌, ◌≤◌, ◌⊎◌, inl, inr, List, [], ◌∷◌, length, Option, Some, None, refl, sym, subst, arith}
+use Rattle.std.proofs.Common.{◌≡◌, ℕ, ◌<◌, ◌⊎◌, inl, inr, List, [], ◌∷◌, length, refl, sym, subst, arith}
 use Rattle.std.specs.Prelude.{slice_index}
-use Rattle.dbpl_world.specs.declared.part.Part.TheVariants.{Log, Pages}
-use Rattle.dbpl_world.specs.Images.{PartState, IsOutside, IsImage, written, settled, after_write}
-use Rattle.dbpl_world.specs.History.{settled_store, State, Wrote, Synced, step}
+use Rattle.dbpl_world.specs.declared.part.Part.TheVariants.{Pages}
+use Rattle.dbpl_world.specs.Images.{PartState, IsOutside, IsImage, settled, after_write}
+use Rattle.dbpl_world.specs.History.{State, Synced, step}
 use Rattle.dbpl_world.proofs.Torn.{settled_image}
 
 abbrev ten : List ℕ
@@ -48,7 +48,10 @@ torn_writes = record { no_shorter = omega arith; no_longer = omega arith; kept =
 
 -- Not allowed: the byte at 4, outside each range, has changed.
 changed_outside : IsImage three_writes (0 ∷ 1 ∷ 21 ∷ 22 ∷ 99 ∷ 51 ∷ 6 ∷ 7 ∷ 8 ∷ 9 ∷ []) → ⊥
-changed_outside image = let changed : 99 ≡ 4 = image.kept 4 (omega arith) (inl (omega arith), (inl (omega arith), (inr (omega arith), tt))) in omega arith
+changed_outside image =
+    let outside : IsOutside 4 three_writes.ranges = (inl (omega arith), (inl (omega arith), (inr (omega arith), tt))) in
+    let changed : ◌≡◌ {A = ℕ} 99 4 = image.kept 4 (omega arith) outside in
+    omega (arith, changed)
 
 -- Not allowed: a length past the greatest since the last sync, or below the least.
 too_long : (left : List ℕ) → length left ≡ 13 → IsImage three_writes left → ⊥
