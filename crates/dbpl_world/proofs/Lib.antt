@@ -1,4 +1,5 @@
 pub mod CountLaws
+mod Examples
 pub mod Fronts
 pub mod Images
 pub mod Moments

@@ -16,7 +16,9 @@ pub struct FileShelf<R> {
 }
 
 impl<R: Files> FileShelf<R> {
-    pub fn new(rt: R) -> FileShelf<R> {
+    pub fn new(rt: R) -> FileShelf<R>
+        ensures { ⟦<FileShelf<R> as Shelf>⟧.shelf_faults result ≡ 0 }
+    {
         FileShelf { rt, faults: 0 }
     }
 

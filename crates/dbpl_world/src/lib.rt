@@ -36,3 +36,6 @@ pub use real_world::RealWorld;
 pub use shelf::Shelf;
 pub use shelf_err::ShelfErr;
 pub use whole::{note_all, say_all};
+
+#[cfg(test)]
+mod tests;

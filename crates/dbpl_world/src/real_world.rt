@@ -1,6 +1,6 @@
 // The world of a process: standard input, output and error, and the two files of a store. It tells nothing: what the
 // system does is outside every contract. Its counts and limits are proved.
-ghost use Rattle.std.specs.Prelude.{◌≡◌, ◌+◌, ◌^◌, ◌<◌, ◌≤◌, false, [], option_map, IfOk, OnOk, OnErr, length};
+ghost use Rattle.std.specs.Prelude.{◌≡◌, ◌+◌, ◌^◌, ◌<◌, ◌≤◌, false, [], None, option_map, IfOk, OnOk, OnErr, length};
 ghost use Rattle.dbpl_world.specs.Counts.{Counts, Rose};
 ghost use Rattle.dbpl_world.specs.Unheard.{silence, unheard};
 
@@ -43,7 +43,11 @@ impl StoreFiles {
 }
 
 impl<R: Files<File = File>, I: Read, O: Print, E: Print> RealWorld<R, I, O, E> {
-    pub fn new(rt: R, input: I, output: O, errors: E) -> Self {
+    /// A world with no store mounted.
+    pub fn new(rt: R, input: I, output: O, errors: E) -> Self
+        ensures mounted { ⟦<RealWorld<R, I, O, E> as World>⟧.mounted result ≡ None }
+        ensures counts { ⟦<RealWorld<R, I, O, E> as World>⟧.counts result ≡ record { take_faults = 0; say_faults = 0; note_faults = 0; disk_faults = 0; page_reads = 0 } }
+    {
         RealWorld {
             rt,
             input,
