@@ -82,5 +82,4 @@ pub fn read(alloc: Global, text: &[u8]) -> Result<Program, ReadErr>
 /// A law: two modules that one text spells are equal.
 pub fn one_module()
     ensures { (text : List ℕ) (first second : Program) → SpellsProgram 0 text first → SpellsProgram 0 text second → first ≡ second }
-{
-}
+{}

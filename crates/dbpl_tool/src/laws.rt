@@ -8,5 +8,4 @@ ghost use Rattle.dbpl_tree.specs.declared.program.Program.{Program};
 pub fn meaning_is_steady()
     ensures extends { (program : Program) (turns others : ℕ) → (rest : List Event) × ((meaning program (turns + others)).events ≡ (meaning program turns).events ++ rest) }
     ensures stays { (program : Program) (turns others : ℕ) → (meaning program turns).stands ≡ Ended → meaning program (turns + others) ≡ meaning program turns }
-{
-}
+{}

@@ -13,7 +13,7 @@ IsOutside i [] = Unit {0}
 IsOutside i (range ∷ ranges) = ((i < range.0) ⊎ (range.0 + range.1 ≤ i)) × IsOutside i ranges
 
 -- A stop may leave these bytes. The length lies between the least and the greatest since the last sync. What that sync
--- made sure of stays, except in the ranges written since. All other bytes may be any bytes.
+-- made sure of stays, except in the ranges written since. All other bytes may be any numbers: more than a disk can leave.
 pub record IsImage (part : PartState) (left : List ℕ) : Type 0 where
   pub no_shorter : length part.base ≤ length left
   pub no_longer : length left ≤ length part.now
@@ -24,6 +24,7 @@ abbrev pub written : List ℕ → ℕ → List ℕ → List ℕ
 written old at bytes = take at (old ++ replicate (at - length old) 0) ++ bytes ++ drop (at + length bytes) old
 
 -- What a write of n bytes at this place that failed may leave to a read: any part of its range may have been written.
+-- Past the old end, in a gap too, it may leave anything.
 pub record IsSmeared (at n : ℕ) (old new : List ℕ) : Type 0 where
   pub no_shorter : length old ≤ length new
   pub no_longer : length new ≤ max (length old) (at + n)

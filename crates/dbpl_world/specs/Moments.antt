@@ -3,7 +3,7 @@ use Rattle.std.specs.Prelude.{◌≡◌, ℕ, ◌≤◌, List, [], ◌∷◌, le
 use Rattle.dbpl_world.specs.Images.{IsImage}
 use Rattle.dbpl_world.specs.History.{State, store_of, Event, step, replay, History, more, now}
 
--- the moment, as a number: how many events there were
+-- The moment, as a number: how many events there were. A call without an event, as a read, stands at one moment.
 abbrev pub clock : History → ℕ
 clock h = length h.events
 
@@ -11,7 +11,8 @@ clock h = length h.events
 abbrev pub state_at : History → ℕ → State
 state_at h moment = replay h.start (take moment h.events)
 
--- A stop at some moment since t could have left these two parts of the store of that name, with these bytes said.
+-- A stop at some moment since t could have left these two parts of the store of that name, with these bytes said, all
+-- that were ever said.
 pub record Might (h : History) (name : List ℕ) (t : ℕ) (log pages said : List ℕ) : Type 0 where
   pub moment : ℕ
   pub since : t ≤ moment
@@ -25,7 +26,7 @@ abbrev pub Always : (State → Type 0) → State → List Event → Type 0
 Always Q s [] = Q s
 Always Q s (event ∷ events) = Q s × Always Q (step s event) events
 
--- each image of the mounted store, with the bytes said
+-- each image of the mounted store, with all bytes said
 abbrev pub LeavesOnly : (List ℕ → List ℕ → List ℕ → Type 0) → State → Type 0
 LeavesOnly P s = (log pages : List ℕ) → IsImage s.disk.log log → IsImage s.disk.pages pages → P log pages s.said
 
