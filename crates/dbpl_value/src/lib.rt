@@ -1,0 +1,25 @@
+//! Types and values of the language: what they are, how they begin, how they compare, how large they are when they
+//! are stored, and paths to their parts.
+#![tactic(auto)]
+
+mod bound;
+mod copies;
+mod db_type;
+mod equality;
+mod field;
+mod head;
+mod param;
+mod path_err;
+mod step;
+mod value;
+
+pub use bound::Bound;
+pub use copies::{copy, copy_type};
+pub use db_type::DbType;
+pub use equality::{equal, same_type};
+pub use field::{Field, field_of};
+pub use head::Head;
+pub use param::Param;
+pub use path_err::PathErr;
+pub use step::Step;
+pub use value::Value;
