@@ -1,7 +1,8 @@
 -- The key of a record, and the order of keys.
-use Rattle.std.specs.Prelude.{ℕ, ℤ, pos, Bool, true, ◌&&◌, if◌then◌else◌, List, [], ◌∷◌, map}
+use Rattle.std.specs.Prelude.{ℕ, ℤ, pos, Bool, true, ◌&&◌, if◌then◌else◌, List, [], ◌∷◌, map, Option, Some, None}
 use Rattle.std.specs.Cmp.Lexicographic.{slice_cmp}
 use Rattle.std.specs.List.{list_all}
+use Rattle.std.specs.Option.{option_map_or}
 use Rattle.std.specs.Ordering.{int_cmp, is_eq, is_lt}
 use Rattle.std.specs.declared.cmp.Ordering.{Ordering}
 use Rattle.dbpl_value.specs.Types.{element_of, fields_of, is_same_name, keys_of}
@@ -32,25 +33,33 @@ parts_of v = parts_level (out-Value v)
 
 -- ---- keys
 
-abbrev pub component_level : Value-F Value → List ℤ
-component_level (values.Num n) = n ∷ []
-component_level (values.Arr parts) = map number_of parts
-component_level _ = []
+-- the value of the field of this name, if there is one
+abbrev pub part_named : List Field → List Value → List ℕ → Option Value
+part_named [] parts name = None
+part_named (field ∷ fields) [] name = None
+part_named (field ∷ fields) (part ∷ parts) name =
+    if is_same_name field.name name then Some part else part_named fields parts name
 
--- a component of a key: the number, or the characters of an array
+abbrev pub component_level : Value → Value-F Value → List Value
+component_level v (values.Num n) = v ∷ []
+component_level v (values.Arr parts) = parts
+component_level v _ = []
+
+-- what a component of a key is made of: the number alone, or the characters of an array
+abbrev pub component_values : Value → List Value
+component_values v = component_level v (out-Value v)
+
+-- a component of a key, by its numbers
 abbrev pub component_of : Value → List ℤ
-component_of v = component_level (out-Value v)
+component_of v = map number_of (component_values v)
 
--- the component at the field of this name
-abbrev pub component_at : List Field → List Value → List ℕ → List ℤ
-component_at [] parts name = []
-component_at (field ∷ fields) [] name = []
-component_at (field ∷ fields) (part ∷ parts) name =
-    if is_same_name field.name name then component_of part else component_at fields parts name
+-- the component that stands in the field of this name
+abbrev pub component_named : List Field → List Value → List ℕ → List ℤ
+component_named fields parts name = option_map_or component_of (part_named fields parts name) []
 
 -- THE key of a record in a relation of this type: its components in declared order
 abbrev pub key_of : DbType → Value → List (List ℤ)
-key_of t element = map (component_at (fields_of (element_of t)) (parts_of element)) (keys_of t)
+key_of t element = map (component_named (fields_of (element_of t)) (parts_of element)) (keys_of t)
 
 -- a key that is given by its components
 abbrev pub key_from : List Value → List (List ℤ)
