@@ -1,3 +1,4 @@
+pub mod KeysLemmas
 pub mod Pairs
-pub mod TypeParts
 pub mod SizesLemmas
+pub mod TypeParts

@@ -60,8 +60,9 @@ fn part_named<'a>(fields: &[Field], parts: &'a [Value], name: &Name) -> Option<&
     ensures { option_copied result ≡ part_of_name fields.now parts.now name.now }
 {
     for i in 0..fields.len().min(parts.len()) {
+        let part = &parts[i];
         if fields[i].name == *name {
-            return Some(&parts[i]);
+            return Some(part);
         }
     }
     None
