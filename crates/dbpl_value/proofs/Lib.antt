@@ -1,4 +1,7 @@
+pub mod KeyOrder
 pub mod KeysLemmas
 pub mod Pairs
+pub mod PathsLemmas
 pub mod SizesLemmas
 pub mod TypeParts
+pub mod ValuesLemmas

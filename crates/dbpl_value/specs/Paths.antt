@@ -1,11 +1,13 @@
 -- The part of a value to which a path leads.
-use Rattle.std.specs.Prelude.{ℕ, ◌+◌, List, [], ◌∷◌, Result, Ok, Err, Option, slice_get, slice_set}
+use Rattle.std.specs.Prelude.{ℕ, ◌+◌, Bool, List, [], ◌∷◌, length, Result, Ok, Err, slice_get, slice_set}
 use Rattle.std.specs.List.{position_or_len}
 use Rattle.std.specs.Option.{option_map_or}
 use Rattle.std.specs.Result.{result_map_both}
-use Rattle.dbpl_value.specs.Keys.{has_key, key_from, parts_of}
-use Rattle.dbpl_value.specs.Types.{element_of, fields_of}
-use Rattle.dbpl_value.specs.declared.db_type.DbType.{DbType}
+use Rattle.dbpl_value.specs.Keys.{has_key, key_from, parts_level, parts_of}
+use Rattle.dbpl_value.specs.Types.{element_of}
+use Rattle.dbpl_value.specs.declared.db_type.DbType.{DbType, DbType-F, out-DbType}
+use Rattle.dbpl_value.specs.declared.db_type.DbType.TheOpen as kinds
+use Rattle.dbpl_value.specs.declared.field.Field.{Field}
 use Rattle.dbpl_value.specs.declared.path_err.PathErr.{PathErr}
 use Rattle.dbpl_value.specs.declared.path_err.PathErr.TheVariants as path_err
 use Rattle.dbpl_value.specs.declared.step.Step.{Step}
@@ -14,17 +16,37 @@ use Rattle.dbpl_value.specs.declared.value.Value.{Value, Value-F, out-Value}
 use Rattle.dbpl_value.specs.declared.value.Value.TheOpen as values
 use Rattle.dbpl_value.specs.declared.value.Value.TheVariants as value
 
--- the position of the part to which a step leads; for a key that no record has, the number of records
+-- the position of the record with the key, or the number of parts where there is none
+abbrev pub place_of_key : (Value → Bool) → Value-F Value → ℕ
+place_of_key test (values.Rel records) = position_or_len test records
+place_of_key test other = length (parts_level other)
+
+-- the position of the part to which a step leads
 abbrev pub place_of : DbType → Value → Step → ℕ
 place_of t v (step.Field number) = number
 place_of t v (step.Index number) = number
-place_of t v (step.Key components) = position_or_len (has_key t (key_from components)) (parts_of v)
+place_of t v (step.Key components) = place_of_key (has_key t (key_from components)) (out-Value v)
 
--- the type of that part
+abbrev pub part_type_level : DbType → ℕ → DbType-F DbType Field → DbType
+part_type_level t place (kinds.Arr index element) = element
+part_type_level t place (kinds.Rec fields) = option_map_or (λ field. field.kind) (slice_get fields place) t
+part_type_level t place (kinds.Rel keys record_type) = record_type
+part_type_level t place _ = t
+
+-- the type of the part at a position, and a type itself where it has none there
+abbrev pub part_type : DbType → ℕ → DbType
+part_type t place = part_type_level t place (out-DbType t)
+
+-- the type of the part to which a step leads
 abbrev pub type_at : DbType → Step → DbType
-type_at t (step.Field number) = option_map_or (λ field. field.kind) (slice_get (fields_of t) number) t
-type_at t (step.Index number) = element_of t
+type_at t (step.Field number) = part_type t number
+type_at t (step.Index number) = part_type t number
 type_at t (step.Key components) = element_of t
+
+-- the type of the part to which a path leads
+abbrev pub type_at_path : DbType → List Step → DbType
+type_at_path t [] = t
+type_at_path t (next ∷ path) = type_at_path (type_at t next) path
 
 -- what is answered where the step with this number leads to no part
 abbrev pub refusal_of : ℕ → Step → PathErr

@@ -34,15 +34,15 @@ is_relation_of keys record_type test (values.Rel parts) =
     list_all test parts && keys_rise (types.Rel keys record_type) parts
 is_relation_of keys record_type test _ = false
 
-abbrev pub is_of_level : DbType-F (DbType × (Value → Bool)) (Field × (Value → Bool)) → Value → Bool
-is_of_level (kinds.Arr index element) v = is_array (count_of index.0) element.1 (out-Value v)
-is_of_level (kinds.Rec fields) v = is_record_of (map (λ field. field.1) fields) (out-Value v)
-is_of_level (kinds.Rel keys record_type) v = is_relation_of keys record_type.0 record_type.1 (out-Value v)
-is_of_level ordinal v = is_number (range_level ordinal) (out-Value v)
+abbrev pub is_of_level : DbType-F (DbType × (Value → Bool)) (Field × (Value → Bool)) → Value-F Value → Bool
+is_of_level (kinds.Arr index element) v = is_array (count_of index.0) element.1 v
+is_of_level (kinds.Rec fields) v = is_record_of (map (λ field. field.1) fields) v
+is_of_level (kinds.Rel keys record_type) v = is_relation_of keys record_type.0 record_type.1 v
+is_of_level ordinal v = is_number (range_level ordinal) v
 
 -- THE values of a type
 abbrev pub is_of : DbType → Value → Bool
-is_of t = by_parts (Value → Bool) is_of_level t
+is_of t = by_parts (Value → Bool) (λ level v. is_of_level level (out-Value v)) t
 
 -- 0, or the least number where 0 isn't in the range
 abbrev pub start_number : Range → ℤ

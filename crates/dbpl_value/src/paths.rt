@@ -1,17 +1,19 @@
 //! Paths into values.
-ghost use Rattle.std.specs.Prelude.{◌≡◌, Result, Ok, Err};
+ghost use Rattle.std.specs.Prelude.{◌≡◌, IfOk, IsTrue};
 ghost use Rattle.std.specs.List.{position_or_len};
 ghost use Rattle.std.specs.Result.{result_map_both};
-ghost use Rattle.dbpl_value.specs.Keys.{has_key, key_from};
-ghost use Rattle.dbpl_value.specs.Paths.{part_at, place_of as place_of_step, refusal_of as refusal_of_step, type_at as type_at_step, with_part_at};
+ghost use Rattle.dbpl_value.specs.Keys.{has_key, key_from, keys_rise};
+ghost use Rattle.dbpl_value.specs.Paths.{part_at, part_type as part_type_of, place_of as place_of_step, refusal_of as refusal_of_step, type_at as type_at_step, type_at_path};
+ghost use Rattle.dbpl_value.specs.Values.{is_of};
 
 use crate::keys::order_to_key;
-use crate::levels::{element_of, fields_of, parts_of};
+use crate::levels::{element_of, parts_of};
 use crate::{DbType, PathErr, Step, Value};
 
-/// The part of a value of type `t` at this path.
+/// The part at this path of a value of type `t`.
 pub fn at_path<'a>(t: &DbType, v: &'a Value, path: &[Step]) -> Result<&'a Value, PathErr>
-    ensures { result_map_both (λ part. part.now) (λ refusal. refusal) result ≡ part_at 0 t.now v.now path.now }
+    ensures part { IsTrue (is_of t.now v.now) → result_map_both (λ part. part.now) (λ refusal. refusal) result ≡ part_at 0 t.now v.now path.now }
+    ensures of_type { IsTrue (is_of t.now v.now) → IfOk result (λ part. IsTrue (is_of (type_at_path t.now path.now) part.now)) }
 {
     let mut kind = t;
     let mut part = v;
@@ -28,24 +30,25 @@ pub fn at_path<'a>(t: &DbType, v: &'a Value, path: &[Step]) -> Result<&'a Value,
 
 /// The position of the part to which a step leads.
 fn place_of(t: &DbType, v: &Value, step: &Step) -> usize
-    ensures { result ≡ place_of_step t.now v.now step.now }
+    ensures { IsTrue (is_of t.now v.now) → result ≡ place_of_step t.now v.now step.now }
 {
     match step {
         Step::Field(number) | Step::Index(number) => *number as usize,
-        Step::Key(key) => place_of_key(t, parts_of(v), key.as_slice()),
+        Step::Key(key) => match v {
+            Value::Rel(records) => place_of_key(t, records.as_slice(), key.as_slice()),
+            _ => parts_of(v).len(),
+        },
     }
 }
 
 /// The position of the record with this key, and the number of records where none has it.
 fn place_of_key(t: &DbType, records: &[Value], key: &[Value]) -> usize
-    ensures { result ≡ position_or_len (has_key t.now (key_from key.now)) records.now }
+    ensures { IsTrue (keys_rise t.now records.now) → result ≡ position_or_len (has_key t.now (key_from key.now)) records.now }
 {
-    for i in 0..records.len() {
-        if order_to_key(t, &records[i], key).is_eq() {
-            return i;
-        }
+    match records.binary_search_by(|record| order_to_key(t, record, key)) {
+        Ok(place) => place,
+        Err(_) => records.len(),
     }
-    records.len()
 }
 
 /// The type of the part to which a step leads.
@@ -53,11 +56,22 @@ fn type_at<'a>(t: &'a DbType, step: &Step) -> &'a DbType
     ensures { result.now ≡ type_at_step t.now step.now }
 {
     match step {
-        Step::Field(number) => match fields_of(t).get(*number as usize) {
+        Step::Field(number) | Step::Index(number) => part_type(t, *number as usize),
+        Step::Key(_) => element_of(t),
+    }
+}
+
+/// The type of the part at a position, and a type itself where it has none there.
+fn part_type(t: &DbType, place: usize) -> &DbType
+    ensures { result.now ≡ part_type_of t.now place }
+{
+    match t {
+        DbType::Arr(_, element) | DbType::Rel(_, element) => element.get(),
+        DbType::Rec(fields) => match fields.get(place) {
             Some(field) => &field.kind,
             None => t,
         },
-        Step::Index(_) | Step::Key(_) => element_of(t),
+        _ => t,
     }
 }
 

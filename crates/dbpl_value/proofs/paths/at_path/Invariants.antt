@@ -1,6 +1,9 @@
 use Rattle.std.proofs.Common.{◌≡◌, drop}
-use Rattle.dbpl_value.specs.Paths.{part_at}
+use Rattle.std.specs.Prelude.{IsTrue}
+use Rattle.dbpl_value.specs.Paths.{part_at, type_at_path}
+use Rattle.dbpl_value.specs.Values.{is_of}
+use Rattle.dbpl_value.proofs.PathsLemmas.{Reached}
 use Rattle.dbpl_value.proofs.paths.at_path.Given as goal
 
 abbrev pub invariant-loop-i : goal.invariant-loop-i
-invariant-loop-i l = part_at 0 l.t l.v l.path ≡ part_at l.i l.kind l.part (drop l.i l.path)
+invariant-loop-i l = IsTrue (is_of l.t l.v) → Reached l.t l.v l.path l.i l.kind l.part
