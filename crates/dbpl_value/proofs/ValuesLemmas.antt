@@ -7,15 +7,17 @@ use Rattle.std.specs.List.{list_all, slice_get, zip}
 use Rattle.std.specs.Option.{option_map_or}
 use Rattle.std.specs.Prelude.{nat_eq}
 use Rattle.dbpl_value.proofs.TypeParts.{by_parts-out}
-use Rattle.dbpl_value.specs.Keys.{keys_rise, parts_level, parts_of}
-use Rattle.dbpl_value.specs.Paths.{part_type, part_type_level}
-use Rattle.dbpl_value.specs.Types.{Range, count_of, range_level}
+use Rattle.dbpl_value.specs.Keys.{has_key, key_from, keys_rise, parts_level, parts_of}
+use Rattle.dbpl_value.specs.Paths.{part_type, part_type_level, place_of, place_of_key, type_at}
+use Rattle.dbpl_value.specs.Types.{Range, count_of, element_level, range_level}
 use Rattle.dbpl_value.specs.Values.{is_number, is_of, is_of_level}
 use Rattle.dbpl_value.specs.declared.db_type.DbType.{DbType, DbType-F, map-DbType, out-DbType, roll-DbType, roll-out-DbType}
 use Rattle.dbpl_value.specs.declared.db_type.DbType.TheOpen as kinds
 use Rattle.dbpl_value.specs.declared.db_type.DbType.TheVariants as types
 use Rattle.dbpl_value.specs.declared.db_type.DbType.TheVariants.{rolls-Rel}
 use Rattle.dbpl_value.specs.declared.field.Field.{Field}
+use Rattle.dbpl_value.specs.declared.step.Step.{Step}
+use Rattle.dbpl_value.specs.declared.step.Step.TheVariants as step
 use Rattle.dbpl_value.specs.declared.value.Value.{Value, Value-F, out-Value}
 use Rattle.dbpl_value.specs.declared.value.Value.TheOpen as values
 use Rattle.dbpl_value.specs.declared.value.Value.TheVariants as value
@@ -67,6 +69,10 @@ number_has_none (Some range) (values.Arr parts) place part h e = cc
 number_has_none (Some range) (values.Rec parts) place part h e = cc
 number_has_none (Some range) (values.Rel parts) place part h e = cc
 
+none_behind : {X : Type 0} (xs : List X) → slice_get xs (length xs) ≡ None
+none_behind [] = refl
+none_behind (x ∷ xs) = none_behind xs
+
 part_is_of :
     (t : DbType) (level : DbType-F DbType Field) (v : Value-F Value) (place : ℕ) (part : Value) →
     is_of_level (tested level) v ≡ true → slice_get (parts_level v) place ≡ Some part →
@@ -101,6 +107,35 @@ pub is_of-part :
     (t : DbType) (v : Value) (place : ℕ) (part : Value) → is_of t v ≡ true → slice_get (parts_of v) place ≡ Some part →
     is_of (part_type t place) part ≡ true
 is_of-part t v place part h e = part_is_of t (out-DbType t) (out-Value v) place part (sym (is_of-out t v) ∙ h) e
+
+key_step :
+    (t : DbType) (level : DbType-F DbType Field) (v : Value-F Value) (test : Value → Bool) (part : Value) →
+    is_of_level (tested level) v ≡ true → slice_get (parts_level v) (place_of_key test v) ≡ Some part →
+    part_type_level t (place_of_key test v) level ≡ element_level t level
+key_step t kinds.Int v test part h e = refl
+key_step t kinds.Card v test part h e = refl
+key_step t kinds.Bool v test part h e = refl
+key_step t kinds.Char v test part h e = refl
+key_step t (kinds.Enum names) v test part h e = refl
+key_step t (kinds.Sub host least greatest) v test part h e = refl
+key_step t (kinds.Arr index element) v test part h e = refl
+key_step t (kinds.Rec fields) (values.Num n) test part h e = cc
+key_step t (kinds.Rec fields) (values.Arr parts) test part h e = cc
+key_step t (kinds.Rec fields) (values.Rec parts) test part h e = let none = none_behind parts in cc
+key_step t (kinds.Rec fields) (values.Rel parts) test part h e = cc
+key_step t (kinds.Rel keys record_type) v test part h e = refl
+
+-- the part to which a step leads is of the type at that step
+pub is_of-step :
+    (t : DbType) (v : Value) (next : Step) (part : Value) → is_of t v ≡ true →
+    slice_get (parts_of v) (place_of t v next) ≡ Some part → is_of (type_at t next) part ≡ true
+is_of-step t v (step.Field number) part h e = is_of-part t v number part h e
+is_of-step t v (step.Index number) part h e = is_of-part t v number part h e
+is_of-step t v (step.Key components) part h e =
+    let test = has_key t (key_from components) in
+    subst (λ (kind : DbType). is_of kind part ≡ true)
+    (key_step t (out-DbType t) (out-Value v) test part (sym (is_of-out t v) ∙ h) e)
+    (is_of-part t v (place_of t v (step.Key components)) part h e)
 
 relation_rises :
     (t : DbType) (records : List Value) (level : DbType-F DbType Field) → level ≡ out-DbType t →

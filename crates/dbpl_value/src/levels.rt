@@ -1,5 +1,6 @@
 //! One level of a type or of a value: what it is made of.
-ghost use Rattle.std.specs.Prelude.{◌≡◌};
+ghost use Rattle.std.specs.Prelude.{◌≡◌, slice_get};
+ghost use Rattle.std.specs.Option.{option_copied};
 ghost use Rattle.dbpl_value.specs.Keys.{component_values as values_of_component, number_of as number_of_value, parts_of as parts_of_value};
 ghost use Rattle.dbpl_value.specs.Types.{element_of as element_of_type, fields_of as fields_of_type, keys_of as keys_of_type};
 
@@ -54,6 +55,16 @@ pub fn parts_of(v: &Value) -> &[Value]
     match v {
         Value::Num(_) => &[],
         Value::Arr(parts) | Value::Rec(parts) | Value::Rel(parts) => parts.as_slice(),
+    }
+}
+
+/// The part of a value at a position, if there is one.
+pub fn part_of(v: &Value, place: usize) -> Option<&Value>
+    ensures { option_copied result ≡ slice_get (parts_of_value v.now) place }
+{
+    match v {
+        Value::Num(_) => None,
+        Value::Arr(parts) | Value::Rec(parts) | Value::Rel(parts) => parts.get(place),
     }
 }
 

@@ -7,7 +7,7 @@ ghost use Rattle.dbpl_value.specs.Paths.{part_at, part_type as part_type_of, pla
 ghost use Rattle.dbpl_value.specs.Values.{is_of};
 
 use crate::keys::order_to_key;
-use crate::levels::{element_of, parts_of};
+use crate::levels::{element_of, part_of, parts_of};
 use crate::{DbType, PathErr, Step, Value};
 
 /// The part at this path of a value of type `t`.
@@ -19,7 +19,7 @@ pub fn at_path<'a>(t: &DbType, v: &'a Value, path: &[Step]) -> Result<&'a Value,
     let mut part = v;
     for i in 0..path.len() {
         let step = &path[i];
-        match parts_of(part).get(place_of(kind, part, step)) {
+        match part_of(part, place_of(kind, part, step)) {
             Some(next) => part = next,
             None => return Err(refusal_of(i as u64, step)),
         }
