@@ -1,0 +1,12 @@
+//! Relations: the record with a key, adding, removing and replacing records, and assignment through a selector.
+#![tactic(auto)]
+
+mod change_err;
+mod lookup;
+mod op;
+mod places;
+mod records;
+
+pub use change_err::ChangeErr;
+pub use lookup::find;
+pub use op::Op;
