@@ -1,0 +1,6 @@
+pub mod EqualityLemmas
+pub mod Halving
+pub mod KeyLemmas
+pub mod OfType
+pub mod Puts
+pub mod Searching

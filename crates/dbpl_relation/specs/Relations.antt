@@ -56,5 +56,5 @@ IsPlace t key records result =
     MatchResult result
     (λ place. (place < length records) × HoldsAt (λ element. key_cmp (key_of t element) key ≡ Equal) records place)
     (λ place.
-        (place ≤ length records) × AllWithin (λ element. key_cmp (key_of t element) key ≡ Less) records 0 place
-        × AllWithin (λ element. key_cmp (key_of t element) key ≡ Greater) records place (length records))
+    (place ≤ length records) × AllWithin (λ element. key_cmp (key_of t element) key ≡ Less) records 0 place
+    × AllWithin (λ element. key_cmp (key_of t element) key ≡ Greater) records place (length records))
