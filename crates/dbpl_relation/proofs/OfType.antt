@@ -1,6 +1,7 @@
 -- A relation of a type is the list of its records.
 use Rattle.std.proofs.Common.{◌≡◌, Bool, true, false, ◌&&◌, List, [], ◌∷◌, refl, ap, sym, subst, ◌∙◌, arith}
 use Rattle.std.specs.List.{list_all}
+use Rattle.std.specs.Cmp.{first_so, second_so}
 use Rattle.dbpl_value.proofs.ValuesLemmas.{is_of-out, tested}
 use Rattle.dbpl_value.specs.Keys.{keys_rise, parts_of}
 use Rattle.dbpl_value.specs.Types.{element_level, element_of}
@@ -13,7 +14,8 @@ use Rattle.dbpl_value.specs.declared.value.Value.{Value, Value-F, out-Value, rol
 use Rattle.dbpl_value.specs.declared.value.Value.TheOpen as values
 use Rattle.dbpl_value.specs.declared.value.Value.TheVariants as value
 use Rattle.dbpl_value.specs.declared.value.Value.TheVariants.{outs-Rel, rolls-Rel as rolls-Relation}
-use Rattle.dbpl_relation.specs.Relations.{are_records, is_relation_level, is_relation_type}
+use Rattle.dbpl_relation.proofs.Puts.{both_so, merged-all, merged-rises}
+use Rattle.dbpl_relation.specs.Relations.{are_records, is_before, merged, is_relation_level, is_relation_type}
 
 -- the records that the level of a type asks for
 level_asks : DbType → DbType-F DbType Field → List Value → Bool
@@ -80,3 +82,36 @@ pub are_records-parts :
     (t : DbType) (v : Value) → is_relation_type t ≡ true → is_of t v ≡ true → are_records t (parts_of v) ≡ true
 are_records-parts t v h g =
     sym (is_of-Rel t (parts_of v) h) ∙ ap (is_of t) (sym (is_Rel-parts t v h g)) ∙ g
+
+pub are_records-all :
+    (t : DbType) (records : List Value) → are_records t records ≡ true → list_all (is_of (element_of t)) records ≡ true
+are_records-all t records h = first_so (list_all (is_of (element_of t)) records) (keys_rise t records) h
+
+pub are_records-rise : (t : DbType) (records : List Value) → are_records t records ≡ true → keys_rise t records ≡ true
+are_records-rise t records h = second_so (list_all (is_of (element_of t)) records) (keys_rise t records) h
+
+pub are_records-of :
+    (t : DbType) (records : List Value) → list_all (is_of (element_of t)) records ≡ true → keys_rise t records ≡ true →
+    are_records t records ≡ true
+are_records-of t records all rise = both_so (list_all (is_of (element_of t)) records) (keys_rise t records) all rise
+
+pub are_records-rest :
+    (t : DbType) (first : Value) (rest : List Value) → are_records t (first ∷ rest) ≡ true → are_records t rest ≡ true
+are_records-rest t first rest h =
+    are_records-of t rest
+    (second_so (is_of (element_of t) first) (list_all (is_of (element_of t)) rest) (are_records-all t (first ∷ rest) h))
+    (second_so (list_all (is_before t first) rest) (keys_rise t rest) (are_records-rise t (first ∷ rest) h))
+
+pub are_records-first :
+    (t : DbType) (first : Value) (rest : List Value) → are_records t (first ∷ rest) ≡ true →
+    is_of (element_of t) first ≡ true
+are_records-first t first rest h =
+    first_so (is_of (element_of t) first) (list_all (is_of (element_of t)) rest) (are_records-all t (first ∷ rest) h)
+
+pub are_records-merged :
+    (t : DbType) (records others : List Value) → are_records t records ≡ true → are_records t others ≡ true →
+    are_records t (merged t records others) ≡ true
+are_records-merged t records others h g =
+    are_records-of t (merged t records others)
+    (merged-all t (is_of (element_of t)) records others (are_records-all t records h) (are_records-all t others g))
+    (merged-rises t records others (are_records-rise t records h))

@@ -26,6 +26,15 @@ list_all-mono p q (x ∷ xs) so h =
     both_so (q x) (list_all q xs) (so x (first_so (p x) (list_all p xs) h))
     (list_all-mono p q xs so (second_so (p x) (list_all p xs) h))
 
+-- a test that holds of every item holds at a place
+pub list_all-at :
+    {X : Type 0} (p : X → Bool) (records : List X) (place : ℕ) (d : X) → list_all p records ≡ true →
+    place < length records → p (get_or records place d) ≡ true
+list_all-at p [] place d h g = absurd (omega arith)
+list_all-at p (first ∷ rest) zero d h g = first_so (p first) (list_all p rest) h
+list_all-at p (first ∷ rest) (suc place) d h g =
+    list_all-at p rest place d (second_so (p first) (list_all p rest) h) (omega arith)
+
 -- what `put` makes of records that begin with `first`, by the order of its key to that of the record
 abbrev put_by : Value → Value → List Value → List Value → Ordering → List Value
 put_by element first rest behind order =
@@ -56,14 +65,6 @@ module _ (t : DbType) where
       (put-absent rest element place (omega arith) (λ k d low high. below (suc k) d (omega arith) (omega arith))
       (λ k d low high. above (suc k) d (omega arith) (omega arith)))
 
-  before-at :
-      (p : Value → Bool) (records : List Value) (place : ℕ) (d : Value) → list_all p records ≡ true →
-      place < length records → p (get_or records place d) ≡ true
-  before-at p [] place d h g = absurd (omega arith)
-  before-at p (first ∷ rest) zero d h g = first_so (p first) (list_all p rest) h
-  before-at p (first ∷ rest) (suc place) d h g =
-      before-at p rest place d (second_so (p first) (list_all p rest) h) (omega arith)
-
   -- and else it takes the place of the one with its key
   pub put-found :
       (records : List Value) (element : Value) (place : ℕ) → keys_rise t records ≡ true → place < length records →
@@ -72,7 +73,7 @@ module _ (t : DbType) where
   put-found [] element place rises within here = absurd (omega arith)
   put-found (first ∷ rest) element zero rises within here = put-step first rest element Equal (here first)
   put-found (first ∷ rest) element (suc place) rises within here =
-      let below = before-at (is_before t first) rest place first
+      let below = list_all-at (is_before t first) rest place first
       (first_so (list_all (is_before t first) rest) (keys_rise t rest) rises) (omega arith)
       in
       let less = is_lt-Less (order_of first (get_or rest place first)) below in

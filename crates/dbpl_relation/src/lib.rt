@@ -2,6 +2,8 @@
 #![tactic(auto)]
 
 mod change_err;
+mod edits;
+mod faults;
 mod lookup;
 mod op;
 mod places;
