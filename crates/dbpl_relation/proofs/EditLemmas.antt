@@ -101,11 +101,11 @@ module _ (t : DbType) where
   lacks-unlike : (other element : Value) → lacks t (key_of t other) element ≡ true → is_same other element ≡ false
   lacks-unlike other element h =
       no_but (is_same other element) (λ e.
-        let same = is_same-equal other element e in
-        let has : has_key t (key_of t other) element ≡ true =
-            ap (λ (z : Value). has_key t (key_of t other) z) (sym same) ∙ has_own_key other
-        in
-        clash (has_key t (key_of t other) element) has h)
+      let same = is_same-equal other element e in
+      let has : has_key t (key_of t other) element ≡ true =
+      ap (λ (z : Value). has_key t (key_of t other) z) (sym same) ∙ has_own_key other
+      in
+      clash (has_key t (key_of t other) element) has h)
     where
       clash : (b : Bool) → b ≡ true → not b ≡ true → ⊥
       clash true e h = cc
@@ -144,8 +144,8 @@ module _ (t : DbType) where
   removed-different (first ∷ rest) other (suc place) rises within here differs =
       rw (lacks-unlike other first (first_lacks t (key_of t other) first rest place rises (omega arith) here))
       (ap (λ others. first ∷ others)
-        (removed-different rest other place (second_so (list_all (is_before t first) rest) (keys_rise t rest) rises)
-          (omega arith) here differs))
+      (removed-different rest other place (second_so (list_all (is_before t first) rest) (keys_rise t rest) rises)
+      (omega arith) here differs))
 
   -- and else that one alone goes
   pub removed-one :
@@ -159,8 +159,8 @@ module _ (t : DbType) where
   removed-one (first ∷ rest) other (suc place) rises within here same =
       rw (lacks-unlike other first (first_lacks t (key_of t other) first rest place rises (omega arith) here))
       (ap (λ others. first ∷ others)
-        (removed-one rest other place (second_so (list_all (is_before t first) rest) (keys_rise t rest) rises)
-          (omega arith) here same))
+      (removed-one rest other place (second_so (list_all (is_before t first) rest) (keys_rise t rest) rises)
+      (omega arith) here same))
 
   same_turned : (element other : Value) → has_key t (key_of t element) other ≡ has_key t (key_of t other) element
   same_turned element other =
@@ -184,7 +184,7 @@ module _ (t : DbType) where
       ap (λ (z : Value). z ∷ map (replacement t inside (element ∷ [])) rest)
       (replacement-other inside element first (first_so (lack first) (list_all lack rest) h))
       ∙ ap (λ others. first ∷ others)
-        (replaced-none inside rest element (second_so (lack first) (list_all lack rest) h))
+      (replaced-none inside rest element (second_so (lack first) (list_all lack rest) h))
 
   -- or where the one with the key is outside
   pub replaced-outside :
@@ -197,14 +197,14 @@ module _ (t : DbType) where
       ap (λ (z : Value). z ∷ map (replacement t inside (element ∷ [])) rest)
       (chosen-outside (inside first) (has_key t (key_of t first) element) element first (outside first))
       ∙ ap (λ others. first ∷ others)
-        (replaced-none inside rest element (rest_lacks t (key_of t element) first rest rises (here first)))
+      (replaced-none inside rest element (rest_lacks t (key_of t element) first rest rises (here first)))
   replaced-outside inside (first ∷ rest) element (suc place) rises within here outside =
       ap (λ (z : Value). z ∷ map (replacement t inside (element ∷ [])) rest)
       (replacement-other inside element first
-        (first_lacks t (key_of t element) first rest place rises (omega arith) here))
+      (first_lacks t (key_of t element) first rest place rises (omega arith) here))
       ∙ ap (λ others. first ∷ others)
-        (replaced-outside inside rest element place
-          (second_so (list_all (is_before t first) rest) (keys_rise t rest) rises) (omega arith) here outside)
+      (replaced-outside inside rest element place
+      (second_so (list_all (is_before t first) rest) (keys_rise t rest) rises) (omega arith) here outside)
 
   -- and else that one does
   pub replaced-one :
@@ -217,16 +217,16 @@ module _ (t : DbType) where
   replaced-one inside (first ∷ rest) element zero rises within here within_test =
       ap (λ (z : Value). z ∷ map (replacement t inside (element ∷ [])) rest)
       (chosen-one (inside first) (has_key t (key_of t first) element) element first (within_test first)
-        (sym (same_turned element first) ∙ ap is_eq (here first)))
+      (sym (same_turned element first) ∙ ap is_eq (here first)))
       ∙ ap (λ others. element ∷ others)
-        (replaced-none inside rest element (rest_lacks t (key_of t element) first rest rises (here first)))
+      (replaced-none inside rest element (rest_lacks t (key_of t element) first rest rises (here first)))
   replaced-one inside (first ∷ rest) element (suc place) rises within here within_test =
       ap (λ (z : Value). z ∷ map (replacement t inside (element ∷ [])) rest)
       (replacement-other inside element first
-        (first_lacks t (key_of t element) first rest place rises (omega arith) here))
+      (first_lacks t (key_of t element) first rest place rises (omega arith) here))
       ∙ ap (λ others. first ∷ others)
-        (replaced-one inside rest element place
-          (second_so (list_all (is_before t first) rest) (keys_rise t rest) rises) (omega arith) here within_test)
+      (replaced-one inside rest element place
+      (second_so (list_all (is_before t first) rest) (keys_rise t rest) rises) (omega arith) here within_test)
 
   pub set-rises :
       (records : List Value) (element : Value) (place : ℕ) → keys_rise t records ≡ true → place < length records →
@@ -258,18 +258,18 @@ module _ (t : DbType) where
   step_by inside element others y false c e f h =
       chosen_by-outside (inside y) _ y e
       ∙ sym (
-        ap (replacement t inside others) (chosen_by-outside (inside y) _ y e) ∙ chosen_by-outside (inside y) _ y e
+      ap (replacement t inside others) (chosen_by-outside (inside y) _ y e) ∙ chosen_by-outside (inside y) _ y e
       )
   step_by inside element others y true false e f h =
       ap (λ b. if inside y then unwrap_or (cond b (Some element) (record_with t (key_of t y) others)) y else y) f
       ∙ sym (
-        ap (replacement t inside others) (chosen-other (inside y) (has_key t (key_of t y) element) element y f)
+      ap (replacement t inside others) (chosen-other (inside y) (has_key t (key_of t y) element) element y f)
       )
   step_by inside element others y true true e f h =
       chosen_by-one (inside y) (has_key t (key_of t y) element) element y (record_with t (key_of t y) others) e f
       ∙ sym (
-        ap (replacement t inside others) (chosen-one (inside y) (has_key t (key_of t y) element) element y e f)
-        ∙ replacement-own inside element others h
+      ap (replacement t inside others) (chosen-one (inside y) (has_key t (key_of t y) element) element y e f)
+      ∙ replacement-own inside element others h
       )
 
   -- the first of the right side, and then the others
@@ -282,10 +282,10 @@ module _ (t : DbType) where
   replaced-step inside (first ∷ rest) element others rises =
       ap (λ (z : Value). z ∷ replaced t inside rest (element ∷ others))
       (step_by inside element others first (inside first) (has_key t (key_of t first) element) refl refl
-        (rest_lacks t (key_of t element) element others rises (tied_itself key_cmp_total (key_of t element))))
+      (rest_lacks t (key_of t element) element others rises (tied_itself key_cmp_total (key_of t element))))
       ∙ ap
-        (λ (zs : List Value). replacement t inside others (replacement t inside (element ∷ []) first) ∷ zs)
-        (replaced-step inside rest element others rises)
+      (λ (zs : List Value). replacement t inside others (replacement t inside (element ∷ []) first) ∷ zs)
+      (replaced-step inside rest element others rises)
 
 pub set-all :
     {X : Type 0} (p : X → Bool) (xs : List X) (i : ℕ) (x : X) → p x ≡ true → list_all p xs ≡ true →

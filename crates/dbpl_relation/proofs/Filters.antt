@@ -105,7 +105,7 @@ removed-step (x ∷ xs) left other =
     (λ b. cond (not b) (x ∷ removed everywhere xs (left ++ other ∷ [])) (removed everywhere xs (left ++ other ∷ [])))
     (list_any-append (λ one. is_same one x) left (other ∷ []))
     ∙ one_step x (removed everywhere xs (left ++ other ∷ [])) (removed everywhere xs (other ∷ [])) left (is_among left x)
-      (is_same other x) refl (removed-step xs left other)
+    (is_same other x) refl (removed-step xs left other)
 
 pub filter-everything : {X : Type 0} (xs : List X) → filter (λ (x : X). true) xs ≡ xs
 filter-everything [] = refl

@@ -20,7 +20,7 @@ pub position-none :
     None ≡ position p xs
 position-none p xs d before =
     let e : position_or_len p xs ≡ length xs =
-        position_or_len_is p xs (length xs) d (omega arith) before (λ h. absurd (omega arith))
+    position_or_len_is p xs (length xs) d (omega arith) before (λ h. absurd (omega arith))
     in
     sym (ap (place_at xs) e ∙ ap (λ b. cond b (Some (length xs)) None) (le-ltb (length xs) (length xs) (omega arith)))
 

@@ -34,11 +34,11 @@ module _ (t : DbType) (key : List (List ℤ)) where
   all_lack (first ∷ rest) zero le below above =
       rw (lacks-Greater first (above 0 first (omega arith) (omega arith)))
       (all_lack rest zero (omega arith) (λ k d low high. absurd (omega arith))
-        (λ k d low high. above (suc k) d (omega arith) (omega arith)))
+      (λ k d low high. above (suc k) d (omega arith) (omega arith)))
   all_lack (first ∷ rest) (suc place) le below above =
       rw (lacks-Less first (below 0 first (omega arith) (omega arith)))
       (all_lack rest place (omega arith) (λ k d low high. below (suc k) d (omega arith) (omega arith))
-        (λ k d low high. above (suc k) d (omega arith) (omega arith)))
+      (λ k d low high. above (suc k) d (omega arith) (omega arith)))
 
   -- the records behind the one with the key lack it
   pub rest_lacks :
@@ -47,11 +47,11 @@ module _ (t : DbType) (key : List (List ℤ)) where
   rest_lacks first rest rises e =
       list_all-mono (is_before t first) lacks rest
       (λ element h.
-        lacks-Greater element (
-          key_cmp_total.antisymm (key_of t element) key
-          ∙ ap (λ z. ordering_reverse (key_cmp z (key_of t element))) (sym (key_cmp-exact (key_of t first) key e))
-          ∙ ap ordering_reverse (is_lt-Less _ h)
-        ))
+      lacks-Greater element (
+      key_cmp_total.antisymm (key_of t element) key
+      ∙ ap (λ z. ordering_reverse (key_cmp z (key_of t element))) (sym (key_cmp-exact (key_of t first) key e))
+      ∙ ap ordering_reverse (is_lt-Less _ h)
+      ))
       (first_so (list_all (is_before t first) rest) (keys_rise t rest) rises)
 
   -- and so does one before it
@@ -60,11 +60,11 @@ module _ (t : DbType) (key : List (List ℤ)) where
       HoldsAt (λ element. key_cmp (key_of t element) key ≡ Equal) rest place → lacks first ≡ true
   first_lacks first rest place rises within here =
       let below = list_all-at (is_before t first) rest place first
-          (first_so (list_all (is_before t first) rest) (keys_rise t rest) rises) within
+      (first_so (list_all (is_before t first) rest) (keys_rise t rest) rises) within
       in
       lacks-Less first (
-        ap (λ z. key_cmp (key_of t first) z) (sym (key_cmp-exact (key_of t (get_or rest place first)) key (here first)))
-        ∙ is_lt-Less _ below
+      ap (λ z. key_cmp (key_of t first) z) (sym (key_cmp-exact (key_of t (get_or rest place first)) key (here first)))
+      ∙ is_lt-Less _ below
       )
 
   no : (b c : Bool) → not b ≡ true → b && c ≡ false

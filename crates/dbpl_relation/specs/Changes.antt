@@ -60,13 +60,18 @@ abbrev pub unless : {A : Type 0} → Option ℕ → (ℕ → ChangeErr) → Resu
 unless None refusal result = result
 unless (Some at) refusal result = Err (refusal at)
 
+-- the relation after the statement where every record of the right side is inside, or Clash at the first that clashes
+abbrev pub changed_inside : DbType → Op → (Value → Bool) → List Value → List Value → Result Value ChangeErr
+changed_inside t op inside records others =
+    unless (position (clashes t op inside records) others) change_err.Clash
+    (Ok (value.Rel (after t op inside records others)))
+
 -- THE relation after the statement, or the refusal: Outside at the first record of the right side that isn't inside,
--- else Clash at the first that clashes
+-- and else Clash at the first that clashes
 abbrev pub changed : DbType → Op → (Value → Bool) → List Value → List Value → Result Value ChangeErr
 changed t op inside records others =
     unless (position (λ other. not (inside other)) others) change_err.Outside
-    (unless (position (clashes t op inside records) others) change_err.Clash
-    (Ok (value.Rel (after t op inside records others))))
+    (changed_inside t op inside records others)
 
 -- each call of the closure answers what the test gives
 abbrev pub Computes : {F : Type 0} → Shared F (Bor Value × Unit {0}) Bool → (Value → Bool) → F → Type 0

@@ -42,7 +42,11 @@ fn put_all(t: &DbType, records: &mut Vec<Value>, from_last: List<Value>)
 }
 
 /// Adds these records, given the last first.
-pub(crate) fn merge(t: &DbType, records: &mut Vec<Value>, from_last: List<Value>) -> Result<(), Memory>
+pub(crate) fn merge(
+    t: &DbType,
+    records: &mut Vec<Value>,
+    from_last: List<Value>,
+) -> Result<(), Memory>
     requires rising { IsTrue (keys_rise t.now records.old.items) }
     ensures ok { OnOk result (records.new.items ≡ merged t.now records.old.items (reverse from_last)) }
     ensures err { OnErr result (records.new.items ≡ records.old.items) }

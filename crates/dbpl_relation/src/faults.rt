@@ -61,12 +61,7 @@ pub(crate) fn first_taken<F: Fn(&Value) -> bool>(
     None
 }
 
-fn is_taken<F: Fn(&Value) -> bool>(
-    t: &DbType,
-    records: &[Value],
-    inside: &F,
-    other: &Value,
-) -> bool
+fn is_taken<F: Fn(&Value) -> bool>(t: &DbType, records: &[Value], inside: &F, other: &Value) -> bool
     requires { F.IsAlwaysCallable inside.now }
     ensures { (test : AnyValue → Bool) → Computes F.Fn test inside.now → IsTrue (keys_rise t.now records.now) → result ≡ clashes t.now Op.Set test records.now other.now }
 {

@@ -22,14 +22,14 @@ returns-clause-of_type g c =
     let before = ap (are_records t) c.reserve.ensures.items ∙ c.requires.records in
     ap (are_records t) c.put_all.ensures
     ∙ are_records-merged t c.retain.new.self.items (reverse c.args.from_last)
-      (ap (are_records t) kept.4 ∙ are_records-kept t kept.0 _ before) c.requires.others
+    (ap (are_records t) kept.4 ∙ are_records-kept t kept.0 _ before) c.requires.others
 
 pub returns-clause-ok : goal.returns-clause-ok
 returns-clause-ok g c test computes =
     let t = c.args.t.now in
     let kept =
-        filter_same _ (λ (v : Value). not (test v)) _ (λ x b f called. (search (rules, computes), search rules)) _ _ c.retain.ensures.filtered
+    filter_same _ (λ (v : Value). not (test v)) _ (λ x b f called. (search (rules, computes), search rules)) _ _ c.retain.ensures.filtered
     in
     c.put_all.ensures
     ∙ ap (λ records. merged t records (reverse c.args.from_last))
-      (kept ∙ ap (filter (λ (v : Value). not (test v))) c.reserve.ensures.items)
+    (kept ∙ ap (filter (λ (v : Value). not (test v))) c.reserve.ensures.items)

@@ -17,17 +17,17 @@ loop-element-preserved g c =
       records = c.give_way_to.ensures.of_type;
       others = are_records-rest t element (reverse c.pop.new.self) others;
       same = λ test computes.
-        c.loop-element.invariant.same test computes ∙ ap (replaced t test c.loop-element.records.items) popped
-        ∙ replaced-step t test c.loop-element.records.items element (reverse c.pop.new.self)
+          c.loop-element.invariant.same test computes ∙ ap (replaced t test c.loop-element.records.items) popped
+          ∙ replaced-step t test c.loop-element.records.items element (reverse c.pop.new.self)
           (are_records-rise t (element ∷ reverse c.pop.new.self) others)
-        ∙ ap (λ records. replaced t test records (reverse c.pop.new.self))
+          ∙ ap (λ records. replaced t test records (reverse c.pop.new.self))
           (sym (c.give_way_to.ensures.items test computes));
     }
 
 pub returns-clause-items : goal.returns-clause-items
 returns-clause-items g c test computes =
     sym (
-      c.loop-element.invariant.same test computes
-      ∙ ap (λ left. replaced c.args.t.now test c.loop-element.records.items (reverse left)) c.in_default.ensures.0
-      ∙ replaced-nothing c.args.t.now test c.loop-element.records.items
+    c.loop-element.invariant.same test computes
+    ∙ ap (λ left. replaced c.args.t.now test c.loop-element.records.items (reverse left)) c.in_default.ensures.0
+    ∙ replaced-nothing c.args.t.now test c.loop-element.records.items
     )

@@ -10,8 +10,8 @@ invariant-loop-element g l = record {
   records : IsTrue (are_records l.t l.records.items);
   others : IsTrue (are_records l.t (reverse l.left));
   same :
-    (test : Value → Bool) → Computes g.F.Fn test l.inside →
-    replaced l.t test l.fn.records.items (reverse l.fn.from_last) ≡ replaced l.t test l.records.items (reverse l.left);
+      (test : Value → Bool) → Computes g.F.Fn test l.inside →
+      replaced l.t test l.fn.records.items (reverse l.fn.from_last) ≡ replaced l.t test l.records.items (reverse l.left);
 }
 
 abbrev pub decreases-loop-element : goal.decreases-loop-element

@@ -17,7 +17,7 @@ returns-then-inside-clause-items g c test computes =
     let here = rw c.deref.ensures.value at place in
     let answer = computes c.index.result.now c.inside.result (says_at g.F.Fn c.inside.ensures refl) in
     let inside =
-        test-at test records c.in-Ok.place c.index.result.now true here.0 c.index.ensures (sym answer ∙ c.if-inside.true)
+    test-at test records c.in-Ok.place c.index.result.now true here.0 c.index.ensures (sym answer ∙ c.if-inside.true)
     in
     sym (replaced-one t test records c.args.element c.in-Ok.place rising here.0 here.1 inside)
 
@@ -30,7 +30,7 @@ returns-then-inside-clause-of_type g c =
     let here = rw c.deref.ensures.value at place in
     are_records-of t _
     (set-all (is_of (element_of t)) records c.in-Ok.place c.args.element c.requires.element
-      (are_records-all t records c.requires.records))
+    (are_records-all t records c.requires.records))
     (set-rises t records c.args.element c.in-Ok.place rising here.0 here.1)
 
 pub returns-else-inside-clause-items : goal.returns-else-inside-clause-items
@@ -42,7 +42,7 @@ returns-else-inside-clause-items g c test computes =
     let here = rw c.deref.ensures.value at place in
     let answer = computes c.index.result.now c.inside.result (says_at g.F.Fn c.inside.ensures refl) in
     let outside =
-        test-at test records c.in-Ok.place c.index.result.now false here.0 c.index.ensures (sym answer ∙ c.if-inside.false)
+    test-at test records c.in-Ok.place c.index.result.now false here.0 c.index.ensures (sym answer ∙ c.if-inside.false)
     in
     sym (replaced-outside t test records c.args.element c.in-Ok.place rising here.0 here.1 outside)
 
@@ -54,6 +54,6 @@ returns-in_default-clause-items g c test computes =
     let place = c.in_default.ensures.place (ap (keys_rise t) c.deref.ensures.value ∙ rising) in
     let none = rw c.deref.ensures.value at place in
     sym (
-      replaced-none t test records c.args.element
-      (all_lack t (key_of t c.args.element) records c.in_default.field-0 none.0 none.1 none.2)
+    replaced-none t test records c.args.element
+    (all_lack t (key_of t c.args.element) records c.in_default.field-0 none.0 none.1 none.2)
     )

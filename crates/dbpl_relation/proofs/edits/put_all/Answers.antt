@@ -13,11 +13,11 @@ loop-element-preserved c =
     let size = ap length popped ∙ length-append c.pop.new.self (element ∷ []) in
     record {
       rising =
-        ap (keys_rise c.args.t.now) c.put_in.ensures.items
-        ∙ put-rises c.args.t.now c.loop-element.records.items element before.rising;
+          ap (keys_rise c.args.t.now) c.put_in.ensures.items
+          ∙ put-rises c.args.t.now c.loop-element.records.items element before.rising;
       room = omega (arith, size, before.room, c.put_in.ensures.len, c.put_in.ensures.capacity);
       same =
-        before.same ∙ ap (λ left. merged c.args.t.now c.loop-element.records.items (reverse left)) popped
-        ∙ ap (merged c.args.t.now c.loop-element.records.items) (reverse-append c.pop.new.self (element ∷ []))
-        ∙ ap (λ records. merged c.args.t.now records (reverse c.pop.new.self)) (sym c.put_in.ensures.items);
+          before.same ∙ ap (λ left. merged c.args.t.now c.loop-element.records.items (reverse left)) popped
+          ∙ ap (merged c.args.t.now c.loop-element.records.items) (reverse-append c.pop.new.self (element ∷ []))
+          ∙ ap (λ records. merged c.args.t.now records (reverse c.pop.new.self)) (sym c.put_in.ensures.items);
     }

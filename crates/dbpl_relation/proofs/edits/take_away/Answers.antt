@@ -13,9 +13,9 @@ loop-other-preserved c =
     record {
       rising = ap (keys_rise t) c.take_one.ensures ∙ filter-rises t _ records c.loop-other.invariant.rising;
       same =
-        c.loop-other.invariant.same ∙ ap (removed everywhere records) split
-        ∙ removed-step records c.in-Some.rest.now c.in-Some.other.now
-        ∙ ap (λ left. removed everywhere left c.in-Some.rest.now) (sym c.take_one.ensures);
+          c.loop-other.invariant.same ∙ ap (removed everywhere records) split
+          ∙ removed-step records c.in-Some.rest.now c.in-Some.other.now
+          ∙ ap (λ left. removed everywhere left c.in-Some.rest.now) (sym c.take_one.ensures);
     }
 
 none_left : {X : Type 0} (xs : List X) → length xs ≡ 0 → xs ≡ []
@@ -26,6 +26,6 @@ pub returns : goal.returns
 returns c =
     let empty = none_left c.loop-other.left.now c.in_default.ensures.cases in
     sym (
-      c.loop-other.invariant.same ∙ ap (removed everywhere c.loop-other.records.items) empty
-      ∙ filter-everything c.loop-other.records.items
+    c.loop-other.invariant.same ∙ ap (removed everywhere c.loop-other.records.items) empty
+    ∙ filter-everything c.loop-other.records.items
     )

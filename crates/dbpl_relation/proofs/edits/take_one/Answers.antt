@@ -12,8 +12,8 @@ returns-then-equal c =
     let place = c.in-Ok.ensures.place (ap (keys_rise t) c.deref.ensures.value ∙ c.requires.rising) in
     let here = rw c.deref.ensures.value at place in
     let same =
-        is_same-at records c.in-Ok.place c.index.result.now c.args.other.now here.0 c.index.ensures
-        (c.equal.ensures.0 c.if-equal.true)
+    is_same-at records c.in-Ok.place c.index.result.now c.args.other.now here.0 c.index.ensures
+    (c.equal.ensures.0 c.if-equal.true)
     in
     c.remove.ensures.items
     ∙ sym (removed-one t records c.args.other.now c.in-Ok.place c.requires.rising here.0 here.1 same)
@@ -25,8 +25,8 @@ returns-else-equal c =
     let place = c.in-Ok.ensures.place (ap (keys_rise t) c.deref.ensures.value ∙ c.requires.rising) in
     let here = rw c.deref.ensures.value at place in
     let unlike =
-        unlike-at records c.in-Ok.place c.index.result.now c.args.other.now here.0 c.index.ensures
-        (λ e. true≢false (sym (c.equal.ensures.1 e) ∙ c.if-equal.false))
+    unlike-at records c.in-Ok.place c.index.result.now c.args.other.now here.0 c.index.ensures
+    (λ e. true≢false (sym (c.equal.ensures.1 e) ∙ c.if-equal.false))
     in
     sym (removed-different t records c.args.other.now c.in-Ok.place c.requires.rising here.0 here.1 unlike)
 
@@ -37,6 +37,6 @@ returns-in_default c =
     let place = c.in_default.ensures.place (ap (keys_rise t) c.deref.ensures.value ∙ c.requires.rising) in
     let none = rw c.deref.ensures.value at place in
     sym (
-      removed-none t records c.args.other.now
-      (all_lack t (key_of t c.args.other.now) records c.in_default.field-0 none.0 none.1 none.2)
+    removed-none t records c.args.other.now
+    (all_lack t (key_of t c.args.other.now) records c.in_default.field-0 none.0 none.1 none.2)
     )

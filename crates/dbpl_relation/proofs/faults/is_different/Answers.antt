@@ -14,15 +14,15 @@ returns-in-Ok c rises =
     let differs : Value → _ = λ (v : Value). not (is_same v c.args.other.now) in
     ap not answer ∙ ap differs c.index-records-place.is
     ∙ sym (
-      any-one c.args.t.now (key_of c.args.t.now c.args.other.now) differs c.args.records.now c.in-Ok.place element rises
-      place.0 place.1
+    any-one c.args.t.now (key_of c.args.t.now c.args.other.now) differs c.args.records.now c.in-Ok.place element rises
+    place.0 place.1
     )
 
 pub returns-in-Err : goal.returns-in-Err
 returns-in-Err c rises =
     let place = c.in-Err.ensures.place rises in
     sym (
-      any-none c.args.t.now (key_of c.args.t.now c.args.other.now) (λ (v : Value). not (is_same v c.args.other.now))
-      c.args.records.now
-      (all_lack c.args.t.now (key_of c.args.t.now c.args.other.now) c.args.records.now _ place.0 place.1 place.2)
+    any-none c.args.t.now (key_of c.args.t.now c.args.other.now) (λ (v : Value). not (is_same v c.args.other.now))
+    c.args.records.now
+    (all_lack c.args.t.now (key_of c.args.t.now c.args.other.now) c.args.records.now _ place.0 place.1 place.2)
     )

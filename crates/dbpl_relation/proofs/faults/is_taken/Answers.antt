@@ -12,14 +12,14 @@ returns-in-Ok g c test computes rises =
     let answer = computes element c.inside.result (says_at g.F.Fn c.inside.ensures refl) in
     ap not answer ∙ ap (λ (v : Value). not (test v)) c.index-records-place.is
     ∙ sym (
-      any-one c.args.t.now (key_of c.args.t.now c.args.other.now) (λ (v : Value). not (test v)) c.args.records.now
-      c.in-Ok.place element rises place.0 place.1
+    any-one c.args.t.now (key_of c.args.t.now c.args.other.now) (λ (v : Value). not (test v)) c.args.records.now
+    c.in-Ok.place element rises place.0 place.1
     )
 
 pub returns-in-Err : goal.returns-in-Err
 returns-in-Err g c test computes rises =
     let place = c.in-Err.ensures.place rises in
     sym (
-      any-none c.args.t.now (key_of c.args.t.now c.args.other.now) (λ (v : Value). not (test v)) c.args.records.now
-      (all_lack c.args.t.now (key_of c.args.t.now c.args.other.now) c.args.records.now _ place.0 place.1 place.2)
+    any-none c.args.t.now (key_of c.args.t.now c.args.other.now) (λ (v : Value). not (test v)) c.args.records.now
+    (all_lack c.args.t.now (key_of c.args.t.now c.args.other.now) c.args.records.now _ place.0 place.1 place.2)
     )
