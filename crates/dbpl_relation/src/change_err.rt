@@ -11,6 +11,11 @@ pub enum ChangeErr {
 }
 
 impl From<Memory> for ChangeErr {
+    ghost use Rattle.std.specs.Prelude.{◌≡◌};
+    ghost use Rattle.dbpl_relation.specs.declared.change_err.ChangeErr.TheVariants as change_err;
+
+    ghost from_gives = { λ _ refusal. refusal ≡ change_err.Memory };
+
     fn from(_: Memory) -> ChangeErr {
         ChangeErr::Memory
     }

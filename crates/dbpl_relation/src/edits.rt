@@ -47,9 +47,11 @@ pub(crate) fn merge(
     records: &mut Vec<Value>,
     from_last: List<Value>,
 ) -> Result<(), Memory>
-    requires rising { IsTrue (keys_rise t.now records.old.items) }
+    requires records { IsTrue (are_records t.now records.old.items) }
+    requires others { IsTrue (are_records t.now (reverse from_last)) }
     ensures ok { OnOk result (records.new.items ≡ merged t.now records.old.items (reverse from_last)) }
     ensures err { OnErr result (records.new.items ≡ records.old.items) }
+    ensures of_type { IsTrue (are_records t.now records.new.items) }
 {
     records.reserve(from_last.len())?;
     put_all(t, records, from_last);
@@ -83,8 +85,9 @@ pub(crate) fn exchange<F: Fn(&Value) -> bool>(
 
 /// Takes away the records that are equal to one of these.
 pub(crate) fn take_away(t: &DbType, records: &mut Vec<Value>, others: &[Value])
-    requires rising { IsTrue (keys_rise t.now records.old.items) }
-    ensures { records.new.items ≡ removed everywhere records.old.items others.now }
+    requires { IsTrue (are_records t.now records.old.items) }
+    ensures items { records.new.items ≡ removed everywhere records.old.items others.now }
+    ensures of_type { IsTrue (are_records t.now records.new.items) }
 {
     let mut left = others;
     while let Some((other, rest)) = left.split_last() {

@@ -1,12 +1,13 @@
 //! Looking up the record with a key.
 ghost use Rattle.std.specs.Prelude.{◌≡◌, ◌+◌, ◌*◌, ◌-◌, ◌^◌, ◌≤◌, IsTrue, length};
 ghost use Rattle.std.specs.Option.{option_copied};
-ghost use Rattle.dbpl_value.specs.Keys.{key_from, keys_rise, parts_of as parts_of_value};
+ghost use Rattle.dbpl_value.specs.Keys.{key_from, keys_rise, parts_of as records_in};
 ghost use Rattle.dbpl_value.specs.Values.{is_of};
 ghost use Rattle.dbpl_relation.specs.Relations.{is_relation_type, record_with};
 
+use crate::records::records_of;
 use dbpl_base::Steps;
-use dbpl_value::{DbType, Value, order_to_key, parts_of};
+use dbpl_value::{DbType, Value, order_to_key};
 use std::cmp::Ordering;
 use std::sync::ledger::Ledger;
 
@@ -20,10 +21,10 @@ pub fn find<'a, L: Ledger>(
 ) -> Option<&'a Value>
     requires kind { IsTrue (is_relation_type t.now) }
     requires relation { IsTrue (is_of t.now r.now) }
-    ensures found { option_copied result ≡ record_with t.now (key_from key.now) (parts_of_value r.now) }
-    ensures cost { 2 ^ (steps.new - steps.old) ≤ 2 * length (parts_of_value r.now) + 1 }
+    ensures found { option_copied result ≡ record_with t.now (key_from key.now) (records_in r.now) }
+    ensures cost { 2 ^ (steps.new - steps.old) ≤ 2 * length (records_in r.now) + 1 }
 {
-    find_in(t, parts_of(r), key, steps)
+    find_in(t, records_of(t, r), key, steps)
 }
 
 fn find_in<'a, L: Ledger>(

@@ -1,5 +1,5 @@
 use Rattle.std.proofs.Common.{◌≡◌, ◌++◌, reverse, length}
-use Rattle.dbpl_relation.proofs.records.copies_from_last.Given as goal
+use Rattle.dbpl_relation.proofs.records.copy_from_last.Given as goal
 
 abbrev pub invariant-loop-value : goal.invariant-loop-value
 invariant-loop-value l = reverse l.fn.values ≡ l.copies ++ reverse l.left
