@@ -1,3 +1,4 @@
+pub mod Changing
 pub mod EditLemmas
 pub mod EqualityLemmas
 pub mod Filters

@@ -4,11 +4,15 @@
 mod change_err;
 mod edits;
 mod faults;
+mod insertion;
 mod lookup;
 mod op;
 mod places;
 mod records;
+mod removal;
 
 pub use change_err::ChangeErr;
+pub use insertion::insert;
 pub use lookup::find;
 pub use op::Op;
+pub use removal::remove;
