@@ -70,8 +70,8 @@ all_inside inside others e =
     let first = position_or_len (λ (other : Value). not (inside other)) others in
     let past = ltb-false first (length others) (none_at first (length others) (ltb first (length others)) e) in
     all_by_place inside others (value.Num (pos 0)) (λ k within.
-      not_not (inside (get_or others k (value.Num (pos 0))))
-      (fails_before_first (λ (other : Value). not (inside other)) others k (value.Num (pos 0)) (omega (arith, past))))
+    not_not (inside (get_or others k (value.Num (pos 0))))
+    (fails_before_first (λ (other : Value). not (inside other)) others k (value.Num (pos 0)) (omega (arith, past))))
 
 by_first :
     (inside : Value → Bool) (other element : Value) (b c : Bool) → is_same other element ≡ b → inside other ≡ true →
@@ -103,3 +103,10 @@ removed-inside inside (first ∷ rest) others h =
     (λ b. cond (not b) (first ∷ removed inside rest others) (removed inside rest others))
     (joint (inside first) (is_among others first) (among-inside inside others first h))
     ∙ ap (λ behind. cond (not (is_among others first)) (first ∷ behind) behind) (removed-inside inside rest others h)
+
+-- a fault is found in the records of the relations themselves
+pub fault_in :
+    (fails : List Value → Value → Bool) (records others left right : List Value) (found : Option ℕ) → records ≡ left →
+    others ≡ right → found ≡ position (fails records) others → found ≡ position (fails left) right
+fault_in fails records others left right found e f h =
+    h ∙ ap (λ z. position (fails z) others) e ∙ ap (position (fails left)) f

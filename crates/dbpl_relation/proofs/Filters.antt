@@ -1,5 +1,7 @@
 -- Filters of the records of a relation.
-use Rattle.std.proofs.Common.{◌≡◌, Bool, true, false, cond, not, ◌&&◌, ◌||◌, List, [], ◌∷◌, ◌++◌, Option, Some, None, refl, ap, sym, ◌∙◌, arith}
+use Rattle.std.proofs.Common.{◌≡◌, Bool, true, false, cond, not, ◌&&◌, ◌||◌, List, [], ◌∷◌, ◌++◌, ◌+◌, ◌<◌, ℕ, length, take, get_or, length-append, Option, Some, None, refl, ap, sym, ◌∙◌, arith}
+use Rattle.std.proofs.lemmas.List.{length-take, take_more}
+use Rattle.std.proofs.lemmas.List.Elements.{filter-append}
 use Rattle.std.proofs.lemmas.List.Folds.{list_any-append}
 use Rattle.std.specs.Cmp.{first_so, second_so}
 use Rattle.std.specs.List.{filter, items_where_true, list_all, list_any, position}
@@ -110,3 +112,42 @@ removed-step (x ∷ xs) left other =
 pub filter-everything : {X : Type 0} (xs : List X) → filter (λ (x : X). true) xs ≡ xs
 filter-everything [] = refl
 filter-everything (x ∷ xs) = ap (λ ys. x ∷ ys) (filter-everything xs)
+
+-- what is kept of one item more
+pub kept-more :
+    {X : Type 0} (answers : List Bool) (xs : List X) (answer : Bool) (x : X) → length answers ≡ length xs →
+    items_where_true (answers ++ answer ∷ []) (xs ++ x ∷ [])
+    ≡ items_where_true answers xs ++ cond answer (x ∷ []) []
+kept-more [] [] true x h = refl
+kept-more [] [] false x h = refl
+kept-more [] (y ∷ ys) answer x h = absurd (omega arith)
+kept-more (b ∷ bs) [] answer x h = absurd (omega arith)
+kept-more (true ∷ bs) (y ∷ ys) answer x h = ap (λ zs. y ∷ zs) (kept-more bs ys answer x (omega arith))
+kept-more (false ∷ bs) (y ∷ ys) answer x h = kept-more bs ys answer x (omega arith)
+
+take_long : {X : Type 0} (xs : List X) (i : ℕ) → i < length xs → length (take i xs) ≡ i
+take_long xs i h = rw length-take (omega arith)
+
+-- a list is some of the items of another, in their order
+abbrev pub IsSome_of : {X : Type 0} → List X → List X → ℕ → Type 0
+IsSome_of kept xs i = (answers : List Bool) × (length answers ≡ i) × (kept ≡ items_where_true answers (take i xs))
+
+pub some_more :
+    {X : Type 0} (xs kept now : List X) (i : ℕ) (x : X) (answer : Bool) → i < length xs → x ≡ get_or xs i x →
+    now ≡ kept ++ cond answer (x ∷ []) [] → IsSome_of kept xs i → IsSome_of now xs (i + 1)
+some_more xs kept now i x answer within is e some =
+    let long : length some.0 ≡ length (take i xs) = some.1 ∙ sym (take_long xs i within) in (
+      some.0 ++ answer ∷ [],
+      length-append some.0 (answer ∷ []) ∙ ap (λ n. n + 1) some.1,
+      e ∙ ap (λ zs. zs ++ cond answer (x ∷ []) []) some.2 ∙ sym (kept-more some.0 (take i xs) answer x long)
+          ∙ ap (items_where_true (some.0 ++ answer ∷ [])) (sym (take_more xs i x within ∙ ap (λ z. take i xs ++ z ∷ []) (sym is))),
+    )
+
+pub filter_more :
+    {X : Type 0} (test : X → Bool) (xs kept now : List X) (i : ℕ) (x : X) (answer : Bool) → i < length xs →
+    x ≡ get_or xs i x → now ≡ kept ++ cond answer (x ∷ []) [] → answer ≡ test x → kept ≡ filter test (take i xs) →
+    now ≡ filter test (take (i + 1) xs)
+filter_more test xs kept now i x answer within is e h before =
+    e ∙ ap (λ b. kept ++ cond b (x ∷ []) []) h ∙ ap (λ zs. zs ++ cond (test x) (x ∷ []) []) before
+    ∙ sym (filter-append test (take i xs) (x ∷ []))
+    ∙ ap (filter test) (sym (take_more xs i x within ∙ ap (λ z. take i xs ++ z ∷ []) (sym is)))

@@ -1,6 +1,7 @@
 //! Relations: the record with a key, adding, removing and replacing records, and assignment through a selector.
 #![tactic(auto)]
 
+mod assignment;
 mod change_err;
 mod edits;
 mod faults;
@@ -10,9 +11,14 @@ mod op;
 mod places;
 mod records;
 mod removal;
+mod replacing;
+mod selection;
 
+pub use assignment::assign_through;
 pub use change_err::ChangeErr;
 pub use insertion::insert;
 pub use lookup::find;
 pub use op::Op;
 pub use removal::remove;
+pub use replacing::replace;
+pub use selection::select;

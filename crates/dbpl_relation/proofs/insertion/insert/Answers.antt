@@ -1,19 +1,9 @@
-use Rattle.std.proofs.Common.{◌≡◌, None, Some, Option, ℕ, List, Ok, refl, sym, ap, ◌∙◌, rules}
-use Rattle.std.specs.List.{position}
+use Rattle.std.proofs.Common.{◌≡◌, None, Some, Ok, refl, sym, ap, ◌∙◌, rules}
 use Rattle.dbpl_value.specs.Keys.{parts_of}
-use Rattle.dbpl_value.specs.declared.db_type.DbType.{DbType}
-use Rattle.dbpl_value.specs.declared.value.Value.{Value}
-use Rattle.dbpl_relation.proofs.Changing.{changed-inside, changed_inside-clash, changed_inside-ok, position-never}
+use Rattle.dbpl_relation.proofs.Changing.{changed-inside, changed_inside-clash, changed_inside-ok, fault_in, position-never}
 use Rattle.dbpl_relation.specs.Changes.{clashes, everywhere}
 use Rattle.dbpl_relation.specs.declared.op.Op.TheVariants as op
 use Rattle.dbpl_relation.proofs.insertion.insert.Goals as goal
-
-of_relations :
-    (t : DbType) (records others right left : List Value) (found : Option ℕ) → records ≡ left → others ≡ right →
-    found ≡ position (clashes t op.Add everywhere records) others →
-    found ≡ position (clashes t op.Add everywhere left) right
-of_relations t records others right left found e f h =
-    h ∙ ap (λ z. position (clashes t op.Add everywhere z) others) e ∙ ap (position (clashes t op.Add everywhere left)) f
 
 pub returns-in-Some-clause-refused : goal.returns-in-Some-clause-refused
 returns-in-Some-clause-refused c not_memory =
@@ -23,8 +13,8 @@ returns-in-Some-clause-refused c not_memory =
     let none_outside = position-never _ right (λ other. refl) in
     changed-inside t op.Add everywhere left right none_outside
     ∙ changed_inside-clash t op.Add everywhere left right c.in-Some.at
-      (of_relations t _ _ right left (Some c.in-Some.at) c.records_of.ensures.same c.records_of-2.ensures.same
-        (c.in-Some.ensures c.records_of.ensures.rising))
+    (fault_in (clashes t op.Add everywhere) _ _ left right (Some c.in-Some.at) c.records_of.ensures.same c.records_of-2.ensures.same
+    (c.in-Some.ensures c.records_of.ensures.rising))
 
 pub returns-clause-added : goal.returns-clause-added
 returns-clause-added c =
@@ -34,6 +24,6 @@ returns-clause-added c =
     let none_outside = position-never _ right (λ other. refl) in
     changed-inside t op.Add everywhere left right none_outside
     ∙ changed_inside-ok t op.Add everywhere left right
-      (of_relations t _ _ right left None c.records_of.ensures.same c.records_of-2.ensures.same
-        (sym c.in_default.is ∙ c.first_different.ensures c.records_of.ensures.rising))
+    (fault_in (clashes t op.Add everywhere) _ _ left right None c.records_of.ensures.same c.records_of-2.ensures.same
+    (sym c.in_default.is ∙ c.first_different.ensures c.records_of.ensures.rising))
     ∙ sym (ap Ok c.in_ok-add.ensures.added)
