@@ -9,13 +9,14 @@ use Rattle.std.specs.Prelude.{nat_eq}
 use Rattle.dbpl_value.proofs.TypeParts.{by_parts-out}
 use Rattle.dbpl_value.specs.Keys.{has_key, key_from, keys_rise, parts_level, parts_of}
 use Rattle.dbpl_value.specs.Paths.{part_type, part_type_level, place_of, place_of_key, type_at}
-use Rattle.dbpl_value.specs.Types.{Range, count_of, element_level, range_level}
+use Rattle.dbpl_value.specs.Types.{count_of, element_level, range_level}
 use Rattle.dbpl_value.specs.Values.{is_number, is_of, is_of_level}
 use Rattle.dbpl_value.specs.declared.db_type.DbType.{DbType, DbType-F, map-DbType, out-DbType, roll-DbType, roll-out-DbType}
 use Rattle.dbpl_value.specs.declared.db_type.DbType.TheOpen as kinds
 use Rattle.dbpl_value.specs.declared.db_type.DbType.TheVariants as types
 use Rattle.dbpl_value.specs.declared.db_type.DbType.TheVariants.{rolls-Rel}
 use Rattle.dbpl_value.specs.declared.field.Field.{Field}
+use Rattle.dbpl_value.specs.declared.range.Range.{Range}
 use Rattle.dbpl_value.specs.declared.step.Step.{Step}
 use Rattle.dbpl_value.specs.declared.step.Step.TheVariants as step
 use Rattle.dbpl_value.specs.declared.value.Value.{Value, Value-F, out-Value}

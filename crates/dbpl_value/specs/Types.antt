@@ -7,6 +7,7 @@ use Rattle.dbpl_base.specs.Words.{is_letter, is_word_byte}
 use Rattle.dbpl_value.specs.declared.db_type.DbType.{DbType, DbType-F, fold-DbType, out-DbType, para-DbType}
 use Rattle.dbpl_value.specs.declared.db_type.DbType.TheOpen as kinds
 use Rattle.dbpl_value.specs.declared.field.Field.{Field}
+use Rattle.dbpl_value.specs.declared.range.Range.{Range}
 
 -- By recursion on a type: its answer, from the types that stand in it and their answers. A field has that of its type.
 abbrev pub by_parts : (A : Type 0) → (DbType-F (DbType × A) (Field × A) → A) → DbType → A
@@ -17,10 +18,6 @@ abbrev pub by_answers : (A : Type 0) → (DbType-F A A → A) → DbType → A
 by_answers A answer = fold-DbType A A answer (λ field. field.kind)
 
 -- ---- ordinal types
-
-pub record Range : Type 0 where
-  pub least : ℤ
-  pub greatest : ℤ
 
 abbrev pub is_in : Range → ℤ → Bool
 is_in range n = int_le range.least n && int_le n range.greatest
