@@ -5,4 +5,5 @@ pub mod PathsLemmas
 pub mod SizesLemmas
 pub mod StartLemmas
 pub mod TypeParts
+pub mod TypedStart
 pub mod ValuesLemmas

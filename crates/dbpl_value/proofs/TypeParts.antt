@@ -1,8 +1,8 @@
 -- One level of a recursion on a type: its answer is made of the answers of the types that stand in it.
-use Rattle.std.proofs.Common.{◌≡◌, List, map, sym, ap, ◌∙◌}
+use Rattle.std.proofs.Common.{◌≡◌, List, map, sym, ap, subst, ◌∙◌}
 use Rattle.dbpl_value.specs.Types.{by_answers, by_parts}
-use Rattle.dbpl_value.specs.declared.db_type.DbType.{DbType, DbType-F, fold_out-DbType, map-DbType, out-DbType, para-DbType, para-roll-DbType, roll-out-DbType}
-use Rattle.dbpl_value.specs.declared.field.Field.{Field, fold_out-Field, out-Field, para-Field, para-roll-Field, roll-out-Field}
+use Rattle.dbpl_value.specs.declared.db_type.DbType.{DbType, DbType-F, fold_out-DbType, ind-DbType, map-DbType, out-DbType, para-DbType, para-roll-DbType, roll-DbType, roll-out-DbType}
+use Rattle.dbpl_value.specs.declared.field.Field.{Field, Field-F, fold_out-Field, out-Field, para-Field, para-roll-Field, roll-out-Field}
 
 module _ (A : Type 0) where
   pub by_answers-out :
@@ -36,3 +36,16 @@ module _ (A : Type 0) where
         (λ (h : Field → A). answer (map-DbType DbType Field (DbType × A) (Field × A)
             (λ part. (part, by_parts A answer part)) (λ field. (field, h field)) (out-DbType t)))
         (λ i field. para_field answer field i)
+
+-- What holds of a type where it holds of the types that stand in it holds of every type.
+pub type_induction :
+    (P : DbType → Type 0) →
+    ((level : DbType-F ((t : DbType) × P t) ((field : Field) × P field.kind)) →
+      P (roll-DbType (map-DbType ((t : DbType) × P t) ((field : Field) × P field.kind) DbType Field (λ held. held.0)
+          (λ held. held.0) level))) →
+    (t : DbType) → P t
+type_induction P step t =
+    ind-DbType P (λ field. P field.kind)
+    (λ level held e. subst (λ (x : DbType-F DbType Field). P (roll-DbType x)) e (step held))
+    (λ level held e. subst (λ (x : Field-F DbType Field). P x.kind) e held.kind.1)
+    t

@@ -208,7 +208,10 @@ inside_level _ = []
 abbrev pub inside : DbType → List DbType
 inside t = by_parts (List DbType) inside_level t
 
--- THE test of a descriptor: it and every type inside it keeps the rules, to depth 64 at most, and with relations to
--- depth 8 at most
+-- it and every type inside it keeps the rules
+abbrev pub is_sound : DbType → Bool
+is_sound t = list_all keeps_rules (t ∷ inside t)
+
+-- THE test of a descriptor: sound, to depth 64 at most, and with relations to depth 8 at most
 abbrev pub is_type : DbType → Bool
-is_type t = list_all keeps_rules (t ∷ inside t) && nat_le (depth_of t) 64 && nat_le (relations_of t) 8
+is_type t = is_sound t && nat_le (depth_of t) 64 && nat_le (relations_of t) 8

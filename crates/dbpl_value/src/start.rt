@@ -12,7 +12,8 @@ use std::alloc::Global;
 /// The value with which a variable of type `t` begins.
 #[cycle(starts)]
 pub fn start_value(alloc: Global, t: &DbType) -> Result<Value, Memory>
-    ensures { IfOk result (λ v. v ≡ start_of t.now) }
+    ensures value { IfOk result (λ v. v ≡ start_of t.now) }
+    ensures of_type { IsTrue (is_type t.now) → IfOk result (λ v. IsTrue (is_of t.now v)) }
 {
     match t {
         DbType::Arr(index, element) => match count_of(index.get()) {
