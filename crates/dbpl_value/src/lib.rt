@@ -29,7 +29,7 @@ pub use keys::{key_order, order_to_key};
 pub use levels::{count_of, element_of, fields_of, keys_of, number_of, parts_of, range_of};
 pub use param::Param;
 pub use path_err::PathErr;
-pub use paths::at_path;
+pub use paths::{at_path, put_path};
 pub use range::Range;
 pub use sizes::size_of;
 pub use start::start_value;
