@@ -2,6 +2,7 @@ pub mod KeyOrder
 pub mod KeysLemmas
 pub mod Pairs
 pub mod PathsLemmas
+pub mod PutLemmas
 pub mod SizesLemmas
 pub mod StartLemmas
 pub mod TypeParts

@@ -61,7 +61,7 @@ zip-test (f ∷ fs) (w ∷ ws) zero part t long h e =
 zip-test (f ∷ fs) (w ∷ ws) (suc i) part t long h e =
     zip-test fs ws i part t (omega arith) (second_so (is_of f.kind w) _ h) e
 
-number_has_none :
+pub number_has_none :
     (range : Option Range) (v : Value-F Value) (place : ℕ) (part : Value) → is_number range v ≡ true →
     slice_get (parts_level v) place ≡ Some part → ⊥
 number_has_none None v place part h e = cc
@@ -126,17 +126,22 @@ key_step t (kinds.Rec fields) (values.Rec parts) test part h e = let none = none
 key_step t (kinds.Rec fields) (values.Rel parts) test part h e = cc
 key_step t (kinds.Rel keys record_type) v test part h e = refl
 
+-- the part to which a step leads stands where its type is that at the step
+pub type_at-part :
+    (t : DbType) (v : Value) (next : Step) (part : Value) → is_of t v ≡ true →
+    slice_get (parts_of v) (place_of t v next) ≡ Some part → part_type t (place_of t v next) ≡ type_at t next
+type_at-part t v (step.Field number) part h e = refl
+type_at-part t v (step.Index number) part h e = refl
+type_at-part t v (step.Key components) part h e =
+    key_step t (out-DbType t) (out-Value v) (has_key t (key_from components)) part (sym (is_of-out t v) ∙ h) e
+
 -- the part to which a step leads is of the type at that step
 pub is_of-step :
     (t : DbType) (v : Value) (next : Step) (part : Value) → is_of t v ≡ true →
     slice_get (parts_of v) (place_of t v next) ≡ Some part → is_of (type_at t next) part ≡ true
-is_of-step t v (step.Field number) part h e = is_of-part t v number part h e
-is_of-step t v (step.Index number) part h e = is_of-part t v number part h e
-is_of-step t v (step.Key components) part h e =
-    let test = has_key t (key_from components) in
-    subst (λ (kind : DbType). is_of kind part ≡ true)
-    (key_step t (out-DbType t) (out-Value v) test part (sym (is_of-out t v) ∙ h) e)
-    (is_of-part t v (place_of t v (step.Key components)) part h e)
+is_of-step t v next part h e =
+    subst (λ (kind : DbType). is_of kind part ≡ true) (type_at-part t v next part h e)
+    (is_of-part t v (place_of t v next) part h e)
 
 relation_rises :
     (t : DbType) (records : List Value) (level : DbType-F DbType Field) → level ≡ out-DbType t →

@@ -4,7 +4,7 @@ ghost use Rattle.std.specs.List.{position_or_len};
 ghost use Rattle.std.specs.Option.{option_map_or};
 ghost use Rattle.std.specs.Result.{result_map_both};
 ghost use Rattle.dbpl_value.specs.Keys.{has_key, key_from, keys_rise};
-ghost use Rattle.dbpl_value.specs.Paths.{part_at, part_type as part_type_of, place_of as place_of_step, refusal_of as refusal_of_step, type_at as type_at_step, type_at_path, with_part_at};
+ghost use Rattle.dbpl_value.specs.Paths.{KeepsKeys, part_at, part_type as part_type_of, place_of as place_of_step, refusal_of as refusal_of_step, type_at as type_at_step, type_at_path, with_part_at};
 ghost use Rattle.dbpl_value.specs.Values.{is_of};
 
 use crate::keys::order_to_key;
@@ -36,6 +36,7 @@ pub fn put_path(t: &DbType, v: &mut Value, path: &[Step], new: Value) -> Result<
     ensures ok { IsTrue (is_of t.now v.old) → OnOk result (IsOk (part_at 0 t.now v.old path.now) × (v.new ≡ with_part_at t.now v.old path.now new)) }
     ensures err { IsTrue (is_of t.now v.old) → IfErr result (λ refusal. part_at 0 t.now v.old path.now ≡ Err refusal) }
     ensures kept { OnErr result (v.new ≡ v.old) }
+    ensures of_type { IsTrue (is_of t.now v.old) → IsTrue (is_of (type_at_path t.now path.now) new) → KeepsKeys t.now v.old path.now new → OnOk result (IsTrue (is_of t.now v.new)) }
 {
     at_path(t, v, path)?;
     *v = put_part(t, mem::replace(v, Value::Num(0)), path, new);
