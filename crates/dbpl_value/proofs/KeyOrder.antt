@@ -59,7 +59,7 @@ keys_rise-at t [] i j d h g k = absurd (omega arith)
 keys_rise-at t (x ∷ xs) zero zero d h g k = absurd (omega arith)
 keys_rise-at t (x ∷ xs) zero (suc j) d h g k =
     is_lt-Less _ (list_all-get_or (λ later. is_lt (key_cmp (key_of t x) (key_of t later))) xs j d
-      (first_so (list_all (λ later. is_lt (key_cmp (key_of t x) (key_of t later))) xs) (keys_rise t xs) h) (omega arith))
+    (first_so (list_all (λ later. is_lt (key_cmp (key_of t x) (key_of t later))) xs) (keys_rise t xs) h) (omega arith))
 keys_rise-at t (x ∷ xs) (suc i) zero d h g k = absurd (omega arith)
 keys_rise-at t (x ∷ xs) (suc i) (suc j) d h g k =
     keys_rise-at t xs i j d (second_so (list_all (λ later. is_lt (key_cmp (key_of t x) (key_of t later))) xs) (keys_rise t xs) h)
@@ -79,11 +79,11 @@ place-found t key records i rises within here =
         is_eq (key_cmp (key_of t (get_or records k (value.Num (pos 0)))) key) ≡ false
     before k below o e =
         ap is_eq (
-          sym (
-            cmp-tie key_cmp_total (key_of t (get_or records k (value.Num (pos 0))))
-            (key_of t (get_or records i (value.Num (pos 0)))) key (here (value.Num (pos 0)))
-          )
-          ∙ keys_rise-at t records k i (value.Num (pos 0)) rises below within
+        sym (
+        cmp-tie key_cmp_total (key_of t (get_or records k (value.Num (pos 0))))
+        (key_of t (get_or records i (value.Num (pos 0)))) key (here (value.Num (pos 0)))
+        )
+        ∙ keys_rise-at t records k i (value.Num (pos 0)) rises below within
         )
 
 never : (o : Ordering) → (o ≡ Less) ⊎ (o ≡ Greater) → is_eq o ≡ false

@@ -14,7 +14,7 @@ module _ {A B : Type 0} where
       let short : i < length (zip xs ys) = rw length-zip (omega arith) in
       take_more (zip xs ys) i (x, y) short
       ∙ ap (λ (p : A × B). take i (zip xs ys) ++ p ∷ [])
-        (get_or-zip xs ys i (x, y) hx hy ∙ (λ j. (sym ex j, sym ey j)))
+      (get_or-zip xs ys i (x, y) hx hy ∙ (λ j. (sym ex j, sym ey j)))
 
   -- all pairs
   pub take-zip-all :

@@ -111,7 +111,7 @@ put_wrapped wrap wraps t parts path step new place kind result some first typed 
     by_part :
         (o : Option Value) → slice_get parts place ≡ o →
         (IfSome o (λ part. IsTrue (is_of kind part)) →
-          result ≡ option_map_or (λ part. slice_set parts place (with_part_at kind part (rest_of path) new)) o parts) →
+        result ≡ option_map_or (λ part. slice_set parts place (with_part_at kind part (rest_of path) new)) o parts) →
         wrap result ≡ with_part_at t (wrap parts) (step ∷ rest_of path) new
     by_part None e put =
         rw (wraps.parts parts, ← at, e) (ap wrap (put tt))

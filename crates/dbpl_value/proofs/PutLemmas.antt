@@ -43,29 +43,29 @@ keys_rise-slice_set t (x ∷ xs) zero old new h e same =
     let key = same ∙ sym (ap (key_of t) first) in
     both_true
     (ap (λ k. list_all (λ later. is_lt (key_cmp k (key_of t later))) xs) key
-      ∙ first_so (list_all (λ later. is_lt (key_cmp (key_of t x) (key_of t later))) xs) (keys_rise t xs) h)
+    ∙ first_so (list_all (λ later. is_lt (key_cmp (key_of t x) (key_of t later))) xs) (keys_rise t xs) h)
     (second_so (list_all (λ later. is_lt (key_cmp (key_of t x) (key_of t later))) xs) (keys_rise t xs) h)
 keys_rise-slice_set t (x ∷ xs) (suc i) old new h e same =
     let above = first_so (list_all (λ later. is_lt (key_cmp (key_of t x) (key_of t later))) xs) (keys_rise t xs) h in
     let below =
-        ap (λ k. is_lt (key_cmp (key_of t x) k)) same
-        ∙ list_all-slice_get (λ later. is_lt (key_cmp (key_of t x) (key_of t later))) xs i old above e
+    ap (λ k. is_lt (key_cmp (key_of t x) k)) same
+    ∙ list_all-slice_get (λ later. is_lt (key_cmp (key_of t x) (key_of t later))) xs i old above e
     in
     both_true (list_all-slice_set (λ later. is_lt (key_cmp (key_of t x) (key_of t later))) xs i new above below)
     (keys_rise-slice_set t xs i old new
-      (second_so (list_all (λ later. is_lt (key_cmp (key_of t x) (key_of t later))) xs) (keys_rise t xs) h) e same)
+    (second_so (list_all (λ later. is_lt (key_cmp (key_of t x) (key_of t later))) xs) (keys_rise t xs) h) e same)
 
 -- the tests of fields, where one part is replaced by one of its field's type
 zip_set :
     (fields : List Field) (parts : List Value) (i : ℕ) (part new : Value) (t : DbType) → length parts ≡ length fields →
     list_all (λ (pair : (Value → Bool) × Value). pair.0 pair.1)
-      (zip (map (λ (field : Field × (Value → Bool)). field.1) (map (λ (field : Field). (field, is_of field.kind)) fields)) parts)
+    (zip (map (λ (field : Field × (Value → Bool)). field.1) (map (λ (field : Field). (field, is_of field.kind)) fields)) parts)
     ≡ true →
     slice_get parts i ≡ Some part →
     is_of (option_map_or (λ (field : Field). field.kind) (slice_get fields i) t) new ≡ true →
     list_all (λ (pair : (Value → Bool) × Value). pair.0 pair.1)
-      (zip (map (λ (field : Field × (Value → Bool)). field.1) (map (λ (field : Field). (field, is_of field.kind)) fields))
-        (slice_set parts i new))
+    (zip (map (λ (field : Field × (Value → Bool)). field.1) (map (λ (field : Field). (field, is_of field.kind)) fields))
+    (slice_set parts i new))
     ≡ true
 zip_set [] parts i part new t long h e typed = refl
 zip_set (f ∷ fs) [] i part new t long h e typed = refl
@@ -95,7 +95,7 @@ level_with t (kinds.Arr index element) (values.Num n) place part new o h e typed
 level_with t (kinds.Arr index element) (values.Arr parts) place part new o h e typed same =
     rw (value.outs-Arr (slice_set parts place new), length-set)
     (both_true (first_so (nat_eq (length parts) _) _ h)
-      (list_all-slice_set (is_of element) parts place new (second_so (nat_eq (length parts) _) _ h) typed))
+    (list_all-slice_set (is_of element) parts place new (second_so (nat_eq (length parts) _) _ h) typed))
 level_with t (kinds.Arr index element) (values.Rec parts) place part new o h e typed same = cc
 level_with t (kinds.Arr index element) (values.Rel parts) place part new o h e typed same = cc
 level_with t (kinds.Rec fields) (values.Num n) place part new o h e typed same = cc
@@ -104,7 +104,7 @@ level_with t (kinds.Rec fields) (values.Rec parts) place part new o h e typed sa
     let long = eqb-true (length parts) _ (first_so (nat_eq (length parts) _) _ h) ∙ simp length-map in
     rw (value.outs-Rec (slice_set parts place new), length-set)
     (both_true (first_so (nat_eq (length parts) _) _ h)
-      (zip_set fields parts place part new t long (second_so (nat_eq (length parts) _) _ h) e typed))
+    (zip_set fields parts place part new t long (second_so (nat_eq (length parts) _) _ h) e typed))
 level_with t (kinds.Rec fields) (values.Rel parts) place part new o h e typed same = cc
 level_with t (kinds.Rel keys record_type) (values.Num n) place part new o h e typed same = cc
 level_with t (kinds.Rel keys record_type) (values.Arr parts) place part new o h e typed same = cc
@@ -114,10 +114,10 @@ level_with t (kinds.Rel keys record_type) (values.Rel parts) place part new o h 
     let one_key = ap (λ (k : DbType). key_of k new) whole ∙ same ∙ sym (ap (λ (k : DbType). key_of k part) whole) in
     rw (value.outs-Rel (slice_set parts place new))
     (both_true
-      (list_all-slice_set (is_of record_type) parts place new
-        (first_so (list_all (is_of record_type) parts) (keys_rise (types.Rel keys record_type) parts) h) typed)
-      (keys_rise-slice_set (types.Rel keys record_type) parts place part new
-        (second_so (list_all (is_of record_type) parts) (keys_rise (types.Rel keys record_type) parts) h) e one_key))
+    (list_all-slice_set (is_of record_type) parts place new
+    (first_so (list_all (is_of record_type) parts) (keys_rise (types.Rel keys record_type) parts) h) typed)
+    (keys_rise-slice_set (types.Rel keys record_type) parts place part new
+    (second_so (list_all (is_of record_type) parts) (keys_rise (types.Rel keys record_type) parts) h) e one_key))
 
 -- a value with another part
 pub is_of-with_part :
@@ -138,10 +138,10 @@ is_of-with_part_at t v (next ∷ path) new h typed keeps =
   where
     by_part :
         ((part : Value) → is_of (type_at t next) part ≡ true → KeepsKeys (type_at t next) part path new →
-          is_of (type_at t next) (with_part_at (type_at t next) part path new) ≡ true) →
+        is_of (type_at t next) (with_part_at (type_at t next) part path new) ≡ true) →
         (o : Option Value) → slice_get (parts_of v) (place_of t v next) ≡ o →
         IfSome o (λ part. (key_of t (with_part_at (type_at t next) part path new) ≡ key_of t part)
-          × KeepsKeys (type_at t next) part path new) →
+        × KeepsKeys (type_at t next) part path new) →
         is_of t (option_map_or (λ part. with_part v (place_of t v next) (with_part_at (type_at t next) part path new)) o v) ≡ true
     by_part deeper None e keeps = h
     by_part deeper (Some part) e keeps =

@@ -9,12 +9,12 @@ module _ (A : Type 0) where
       (answer : DbType-F A A → A) (t : DbType) →
       by_answers A answer t
       ≡ answer
-        (map-DbType DbType Field A A (by_answers A answer) (λ field. by_answers A answer field.kind) (out-DbType t))
+      (map-DbType DbType Field A A (by_answers A answer) (λ field. by_answers A answer field.kind) (out-DbType t))
   by_answers-out answer t =
       fold_out-DbType A A answer (λ field. field.kind) t
       ∙ ap
-        (λ (h : Field → A). answer (map-DbType DbType Field A A (by_answers A answer) h (out-DbType t)))
-        (λ i field. fold_out-Field A A answer (λ level. level.kind) field i)
+      (λ (h : Field → A). answer (map-DbType DbType Field A A (by_answers A answer) h (out-DbType t)))
+      (λ i field. fold_out-Field A A answer (λ level. level.kind) field i)
 
   para_field :
       (answer : DbType-F (DbType × A) (Field × A) → A) (field : Field) →
@@ -27,22 +27,22 @@ module _ (A : Type 0) where
       (answer : DbType-F (DbType × A) (Field × A) → A) (t : DbType) →
       by_parts A answer t
       ≡ answer
-        (map-DbType DbType Field (DbType × A) (Field × A) (λ part. (part, by_parts A answer part))
-          (λ field. (field, by_parts A answer field.kind)) (out-DbType t))
+      (map-DbType DbType Field (DbType × A) (Field × A) (λ part. (part, by_parts A answer part))
+      (λ field. (field, by_parts A answer field.kind)) (out-DbType t))
   by_parts-out answer t =
       ap (λ (x : DbType). by_parts A answer x) (sym (roll-out-DbType t))
       ∙ para-roll-DbType A A answer (λ level. level.kind.1) (out-DbType t)
       ∙ ap
-        (λ (h : Field → A). answer (map-DbType DbType Field (DbType × A) (Field × A)
-            (λ part. (part, by_parts A answer part)) (λ field. (field, h field)) (out-DbType t)))
-        (λ i field. para_field answer field i)
+      (λ (h : Field → A). answer (map-DbType DbType Field (DbType × A) (Field × A)
+      (λ part. (part, by_parts A answer part)) (λ field. (field, h field)) (out-DbType t)))
+      (λ i field. para_field answer field i)
 
 -- What holds of a type where it holds of the types that stand in it holds of every type.
 pub type_induction :
     (P : DbType → Type 0) →
     ((level : DbType-F ((t : DbType) × P t) ((field : Field) × P field.kind)) →
-      P (roll-DbType (map-DbType ((t : DbType) × P t) ((field : Field) × P field.kind) DbType Field (λ held. held.0)
-          (λ held. held.0) level))) →
+    P (roll-DbType (map-DbType ((t : DbType) × P t) ((field : Field) × P field.kind) DbType Field (λ held. held.0)
+    (λ held. held.0) level))) →
     (t : DbType) → P t
 type_induction P step t =
     ind-DbType P (λ field. P field.kind)

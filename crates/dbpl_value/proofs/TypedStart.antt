@@ -71,13 +71,13 @@ long_alike fields = simp length-map (nat_eq-refl (length fields))
 record_typed :
     (held : List ((field : Field) × IsTyped field.kind)) →
     list_all keeps_rules (flat_map (λ (field : Field × List DbType). field.0.kind ∷ field.1)
-      (map (λ (field : Field). (field, inside field.kind)) (map (λ (h : (field : Field) × IsTyped field.kind). h.0) held)))
+    (map (λ (field : Field). (field, inside field.kind)) (map (λ (h : (field : Field) × IsTyped field.kind). h.0) held)))
     ≡ true →
     list_all (λ (pair : (Value → Bool) × Value). pair.0 pair.1) (zip
-      (map (λ (field : Field × (Value → Bool)). field.1)
-        (map (λ (field : Field). (field, is_of field.kind)) (map (λ (h : (field : Field) × IsTyped field.kind). h.0) held)))
-      (map (λ (field : Field × Value). field.1)
-        (map (λ (field : Field). (field, start_of field.kind)) (map (λ (h : (field : Field) × IsTyped field.kind). h.0) held))))
+    (map (λ (field : Field × (Value → Bool)). field.1)
+    (map (λ (field : Field). (field, is_of field.kind)) (map (λ (h : (field : Field) × IsTyped field.kind). h.0) held)))
+    (map (λ (field : Field × Value). field.1)
+    (map (λ (field : Field). (field, start_of field.kind)) (map (λ (h : (field : Field) × IsTyped field.kind). h.0) held))))
     ≡ true
 record_typed [] h = refl
 record_typed (field ∷ held) h =
@@ -94,9 +94,9 @@ level_typed kinds.Card own within = number_typed (record { least = pos 0; greate
 level_typed kinds.Bool own within = number_typed (record { least = pos 0; greatest = pos 1 }) refl
 level_typed kinds.Char own within = number_typed (record { least = pos 0; greatest = pos 255 }) refl
 level_typed (kinds.Enum []) own within = cc
-level_typed (kinds.Enum (name ∷ names)) own within = 
+level_typed (kinds.Enum (name ∷ names)) own within =
     number_typed (record { least = pos 0; greatest = pos (length (name ∷ names)) -ℤ pos 1 }) (none_below names name)
-level_typed (kinds.Sub host least greatest) own within = 
+level_typed (kinds.Sub host least greatest) own within =
     number_typed (record { least = least; greatest = greatest }) (second_so _ (int_le least greatest) own)
 level_typed (kinds.Arr index element) own within =
     let count = count_of index.0 in
@@ -107,7 +107,7 @@ level_typed (kinds.Arr index element) own within =
   where
     long : (count : ℕ) (v : Value) → nat_eq (length (replicate count v)) count ≡ true
     long count v = rw (length-replicate count v) (nat_eq-refl count)
-level_typed (kinds.Rec fields) own within = rw (value.outs-Rec _) 
+level_typed (kinds.Rec fields) own within = rw (value.outs-Rec _)
     (both_true (long_alike (map (λ (h : (field : Field) × IsTyped field.kind). h.0) fields)) (record_typed fields within))
 level_typed (kinds.Rel keys record_type) own within = rw (value.outs-Rel []) refl
 
@@ -118,17 +118,17 @@ start_of-sound = type_induction IsTyped step
     step level sound =
         let out = out-roll-DbType (plain level) in
         let own =
-            ap is_sound_level (sym out)
-            ∙ first_so (is_sound_level (out-DbType (roll-DbType (plain level)))) _ (first_so (keeps_rules (roll-DbType (plain level))) _ sound)
+        ap is_sound_level (sym out)
+        ∙ first_so (is_sound_level (out-DbType (roll-DbType (plain level)))) _ (first_so (keeps_rules (roll-DbType (plain level))) _ sound)
         in
         let inner =
-            ap (λ (d : DbType-F DbType Field). list_all keeps_rules (inside_level (insides d))) (sym out)
-            ∙ sym (ap (list_all keeps_rules) (by_parts-out (List DbType) inside_level (roll-DbType (plain level))))
-            ∙ second_so (keeps_rules (roll-DbType (plain level))) _ sound
+        ap (λ (d : DbType-F DbType Field). list_all keeps_rules (inside_level (insides d))) (sym out)
+        ∙ sym (ap (list_all keeps_rules) (by_parts-out (List DbType) inside_level (roll-DbType (plain level))))
+        ∙ second_so (keeps_rules (roll-DbType (plain level))) _ sound
         in
         is_of-out (roll-DbType (plain level)) (start_of (roll-DbType (plain level)))
         ∙ ap (λ (v : Value). is_of_level (tested (out-DbType (roll-DbType (plain level)))) (out-Value v))
-          (by_parts-out Value start_level (roll-DbType (plain level)))
+        (by_parts-out Value start_level (roll-DbType (plain level)))
         ∙ ap (λ (d : DbType-F DbType Field). is_of_level (tested d) (out-Value (start_level (started d)))) out
         ∙ level_typed level own inner
 

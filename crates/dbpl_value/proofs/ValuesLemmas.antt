@@ -48,7 +48,7 @@ is_of-out t v =
 zip-test :
     (fields : List Field) (parts : List Value) (i : ℕ) (part : Value) (t : DbType) → length parts ≡ length fields →
     list_all (λ (pair : (Value → Bool) × Value). pair.0 pair.1)
-      (zip (map (λ (field : Field × (Value → Bool)). field.1) (map (λ (field : Field). (field, is_of field.kind)) fields)) parts)
+    (zip (map (λ (field : Field × (Value → Bool)). field.1) (map (λ (field : Field). (field, is_of field.kind)) fields)) parts)
     ≡ true →
     slice_get parts i ≡ Some part →
     is_of (option_map_or (λ (field : Field). field.kind) (slice_get fields i) t) part ≡ true
@@ -93,7 +93,7 @@ part_is_of t (kinds.Arr index element) (values.Rec parts) place part h e = cc
 part_is_of t (kinds.Arr index element) (values.Rel parts) place part h e = cc
 part_is_of t (kinds.Rec fields) (values.Num n) place part h e = cc
 part_is_of t (kinds.Rec fields) (values.Arr parts) place part h e = cc
-part_is_of t (kinds.Rec fields) (values.Rec parts) place part h e = 
+part_is_of t (kinds.Rec fields) (values.Rec parts) place part h e =
     let long = eqb-true (length parts) _ (first_so (nat_eq (length parts) _) _ h) in
     zip-test fields parts place part t (long ∙ simp length-map) (second_so (nat_eq (length parts) _) _ h) e
 part_is_of t (kinds.Rec fields) (values.Rel parts) place part h e = cc

@@ -84,4 +84,4 @@ KeepsKeys t v [] new = ⊤
 KeepsKeys t v (next ∷ path) new =
     IfSome (slice_get (parts_of v) (place_of t v next))
     (λ part. (key_of t (with_part_at (type_at t next) part path new) ≡ key_of t part)
-      × KeepsKeys (type_at t next) part path new)
+    × KeepsKeys (type_at t next) part path new)

@@ -11,12 +11,14 @@ mod head;
 mod keys;
 mod levels;
 mod param;
-mod paths;
 mod path_err;
+mod paths;
 mod range;
 mod sizes;
 mod start;
 mod step;
+#[cfg(test)]
+mod tests;
 mod value;
 
 pub use bound::Bound;

@@ -65,7 +65,13 @@ fn put_part(t: &DbType, v: Value, path: &[Step], new: Value) -> Value
 
 /// The parts with `new` at this path of the one at `place`, which is of type `t`.
 #[cycle(put)]
-fn put_in(t: &DbType, mut parts: List<Value>, place: usize, path: &[Step], new: Value) -> List<Value>
+fn put_in(
+    t: &DbType,
+    mut parts: List<Value>,
+    place: usize,
+    path: &[Step],
+    new: Value,
+) -> List<Value>
     ensures { IfSome (slice_get parts place) (λ part. IsTrue (is_of t.now part)) → result ≡ option_map_or (λ part. slice_set parts place (with_part_at t.now part path.now new)) (slice_get parts place) parts }
 {
     if place >= parts.len() {

@@ -15,8 +15,8 @@ size_of_fields-loop-i-preserved t c =
     let fields_in : c.loop-i.i < length c.args.fields.now = omega arith in
     let parts_in : c.loop-i.i < length c.args.parts.now = omega arith in
     let more =
-        size_of_fields-more c.args.fields.now c.args.parts.now c.loop-i.i c.index-fields-i.result c.index-parts-i.result
-        fields_in parts_in c.index-fields-i.is c.index-parts-i.is
+    size_of_fields-more c.args.fields.now c.args.parts.now c.loop-i.i c.index-fields-i.result c.index-parts-i.result
+    fields_in parts_in c.index-fields-i.is c.index-parts-i.is
     in
     let size = rw (← c.index-fields-i.is) at c.size_of.ensures in
     rw more (omega (arith, size))
