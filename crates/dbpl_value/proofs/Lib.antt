@@ -1,5 +1,6 @@
 pub mod KeyOrder
 pub mod KeysLemmas
+pub mod Names
 pub mod Pairs
 pub mod PathsLemmas
 pub mod PutLemmas

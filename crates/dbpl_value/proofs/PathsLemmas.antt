@@ -1,5 +1,5 @@
 -- A path is followed one step at a time.
-use Rattle.std.proofs.Common.{◌≡◌, ◌+◌, ◌-◌, ◌<◌, ◌≤◌, ℕ, zero, suc, List, [], ◌∷◌, length, drop, take, get_or, Option, Some, None, Result, Ok, Err, refl, ap, sym, ◌∙◌, arith, add-one, drop-cons}
+use Rattle.std.proofs.Common.{◌≡◌, ◌+◌, ◌-◌, ◌<◌, ◌≤◌, ℕ, zero, suc, List, [], ◌∷◌, length, drop, take, get_or, Option, Some, None, Err, refl, ap, sym, ◌∙◌, arith, add-one, drop-cons}
 use Rattle.std.proofs.lemmas.List.{take_all}
 use Rattle.std.specs.Prelude.{IfSome, IsTrue, pos, slice_get, slice_set}
 use Rattle.std.specs.Option.{option_map_or}
@@ -8,7 +8,6 @@ use Rattle.dbpl_value.specs.Keys.{parts_of}
 use Rattle.dbpl_value.specs.Paths.{part_at, place_of, refusal_of, type_at, type_at_path, with_part_at, with_parts}
 use Rattle.dbpl_value.specs.Values.{is_of}
 use Rattle.dbpl_value.specs.declared.db_type.DbType.{DbType}
-use Rattle.dbpl_value.specs.declared.path_err.PathErr.{PathErr}
 use Rattle.dbpl_value.specs.declared.step.Step.{Step}
 use Rattle.dbpl_value.specs.declared.value.Value.{Value, out-Value}
 use Rattle.dbpl_value.specs.declared.value.Value.TheVariants as value

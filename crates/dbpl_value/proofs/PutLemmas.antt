@@ -1,5 +1,5 @@
 -- A value with another part of the same type and key is still of its type.
-use Rattle.std.proofs.Common.{◌≡◌, ℕ, zero, suc, Bool, true, false, ◌&&◌, List, [], ◌∷◌, map, length, Option, Some, None, refl, ap, sym, ◌∙◌, arith}
+use Rattle.std.proofs.Common.{◌≡◌, ℕ, zero, suc, Bool, true, List, [], ◌∷◌, map, length, Option, Some, None, refl, ap, sym, ◌∙◌, arith}
 use Rattle.std.proofs.lemmas.Bool.{eqb-true}
 use Rattle.std.proofs.lemmas.List.{length-map}
 use Rattle.std.proofs.Math.ListN.{length-set}
@@ -8,7 +8,7 @@ use Rattle.std.specs.Cmp.Derive.{both_true}
 use Rattle.std.specs.List.{list_all, zip}
 use Rattle.std.specs.Option.{option_map_or}
 use Rattle.std.specs.Ordering.{is_lt}
-use Rattle.std.specs.Prelude.{IfSome, IsTrue, nat_eq, slice_get, slice_set}
+use Rattle.std.specs.Prelude.{IfSome, nat_eq, slice_get, slice_set}
 use Rattle.dbpl_value.proofs.ValuesLemmas.{is_of-out, is_of-step, list_all-slice_get, number_has_none, tested, type_at-part}
 use Rattle.dbpl_value.specs.Keys.{key_cmp, key_of, keys_rise, parts_level, parts_of}
 use Rattle.dbpl_value.specs.Paths.{KeepsKeys, part_type, part_type_level, place_of, type_at, type_at_path, with_part, with_part_at, with_parts}

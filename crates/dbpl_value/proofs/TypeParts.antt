@@ -1,7 +1,7 @@
 -- One level of a recursion on a type: its answer is made of the answers of the types that stand in it.
-use Rattle.std.proofs.Common.{◌≡◌, List, map, sym, ap, subst, ◌∙◌}
+use Rattle.std.proofs.Common.{◌≡◌, sym, ap, subst, ◌∙◌}
 use Rattle.dbpl_value.specs.Types.{by_answers, by_parts}
-use Rattle.dbpl_value.specs.declared.db_type.DbType.{DbType, DbType-F, fold_out-DbType, ind-DbType, map-DbType, out-DbType, para-DbType, para-roll-DbType, roll-DbType, roll-out-DbType}
+use Rattle.dbpl_value.specs.declared.db_type.DbType.{DbType, DbType-F, fold_out-DbType, ind-DbType, map-DbType, out-DbType, para-roll-DbType, roll-DbType, roll-out-DbType}
 use Rattle.dbpl_value.specs.declared.field.Field.{Field, Field-F, fold_out-Field, out-Field, para-Field, para-roll-Field, roll-out-Field}
 
 module _ (A : Type 0) where

@@ -1,5 +1,5 @@
 -- The start value of a type is of that type.
-use Rattle.std.proofs.Common.{◌≡◌, ℕ, zero, suc, Bool, true, false, not, ◌&&◌, if◌then◌else◌, List, [], ◌∷◌, ◌++◌, map, length, replicate, Some, refl, ap, sym, ◌∙◌, arith}
+use Rattle.std.proofs.Common.{◌≡◌, ℕ, zero, suc, Bool, true, false, if◌then◌else◌, List, [], ◌∷◌, map, length, replicate, Some, refl, ap, sym, ◌∙◌, arith}
 use Rattle.std.proofs.lemmas.Bool.Decides.{nat_tests}
 use Rattle.std.proofs.lemmas.Int.{ints}
 use Rattle.std.proofs.lemmas.List.{length-map, length-replicate}
@@ -11,7 +11,7 @@ use Rattle.std.specs.Prelude.{ℤ, negsuc, pos, ◌-ℤ◌, int_le, nat_eq}
 use Rattle.dbpl_value.proofs.StartLemmas.{started}
 use Rattle.dbpl_value.proofs.TypeParts.{by_parts-out, type_induction}
 use Rattle.dbpl_value.proofs.ValuesLemmas.{is_of-out, tested}
-use Rattle.dbpl_value.specs.Types.{count_of, inside, inside_level, is_in, is_sound, is_sound_level, is_type, keeps_rules, range_level, scalars_of}
+use Rattle.dbpl_value.specs.Types.{count_of, inside, inside_level, is_in, is_sound, is_sound_level, is_type, keeps_rules}
 use Rattle.dbpl_value.specs.Values.{is_number, is_of, is_of_level, start_level, start_number, start_of}
 use Rattle.dbpl_value.specs.declared.db_type.DbType.{DbType, DbType-F, map-DbType, out-DbType, out-roll-DbType, roll-DbType}
 use Rattle.dbpl_value.specs.declared.db_type.DbType.TheOpen as kinds

@@ -1,5 +1,5 @@
 -- The values of a type, one level at a time.
-use Rattle.std.proofs.Common.{◌≡◌, ◌+◌, ◌<◌, ◌≤◌, ℕ, zero, suc, Bool, true, false, ◌&&◌, List, [], ◌∷◌, map, length, get_or, Option, Some, None, refl, ap, sym, subst, ◌∙◌, arith, rules}
+use Rattle.std.proofs.Common.{◌≡◌, ℕ, zero, suc, Bool, true, List, [], ◌∷◌, map, length, Option, Some, None, refl, ap, sym, subst, ◌∙◌, arith}
 use Rattle.std.proofs.lemmas.Bool.{eqb-true}
 use Rattle.std.proofs.lemmas.List.{length-map}
 use Rattle.std.specs.Cmp.{first_so, second_so}
@@ -9,7 +9,7 @@ use Rattle.std.specs.Prelude.{nat_eq}
 use Rattle.dbpl_value.proofs.TypeParts.{by_parts-out}
 use Rattle.dbpl_value.specs.Keys.{has_key, key_from, keys_rise, parts_level, parts_of}
 use Rattle.dbpl_value.specs.Paths.{part_type, part_type_level, place_of, place_of_key, type_at}
-use Rattle.dbpl_value.specs.Types.{count_of, element_level, range_level}
+use Rattle.dbpl_value.specs.Types.{element_level, range_level}
 use Rattle.dbpl_value.specs.Values.{is_number, is_of, is_of_level}
 use Rattle.dbpl_value.specs.declared.db_type.DbType.{DbType, DbType-F, map-DbType, out-DbType, roll-DbType, roll-out-DbType}
 use Rattle.dbpl_value.specs.declared.db_type.DbType.TheOpen as kinds

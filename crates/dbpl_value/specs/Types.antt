@@ -1,5 +1,5 @@
 -- Which descriptors are types, and how many values an ordinal type has.
-use Rattle.std.specs.Prelude.{ℕ, ◌+◌, ◌*◌, ◌^◌, max, nat_abs, ℤ, pos, negsuc, ◌-ℤ◌, int_le, fold, Bool, true, false, not, ◌&&◌, nat_eq, nat_le, if◌then◌else◌, List, [], ◌∷◌, ◌++◌, map, length, sum, Option, Some, None, is_some}
+use Rattle.std.specs.Prelude.{ℕ, ◌+◌, ◌*◌, max, nat_abs, ℤ, pos, negsuc, ◌-ℤ◌, int_le, fold, Bool, true, false, not, ◌&&◌, nat_eq, nat_le, if◌then◌else◌, List, [], ◌∷◌, ◌++◌, map, length, sum, Option, Some, None, is_some}
 use Rattle.std.specs.Cmp.Lexicographic.{pointwise}
 use Rattle.std.specs.List.{flat_map, list_all, list_any}
 use Rattle.std.specs.Option.{option_map_or}
@@ -121,7 +121,7 @@ abbrev pub are_different : List (List ℕ) → Bool
 are_different [] = true
 are_different (name ∷ names) = not (list_any (is_same_name name) names) && are_different names
 
--- one name or more, all identifiers, and none twice
+-- all are identifiers, and none stands there twice
 abbrev pub are_names : List (List ℕ) → Bool
 are_names names = list_all is_identifier names && are_different names
 

@@ -1,5 +1,5 @@
 -- Which values a type has, and with which a variable of it begins.
-use Rattle.std.specs.Prelude.{ℕ, ℤ, pos, Bool, false, ◌&&◌, nat_eq, if◌then◌else◌, List, [], map, length, replicate, Option, Some, None}
+use Rattle.std.specs.Prelude.{ℕ, ℤ, pos, Bool, false, ◌&&◌, nat_eq, if◌then◌else◌, List, [], map, length, replicate, Option, Some}
 use Rattle.std.specs.List.{list_all, zip}
 use Rattle.std.specs.Option.{option_map_or}
 use Rattle.dbpl_value.specs.Keys.{keys_rise}

@@ -50,9 +50,9 @@ fn table_type(alloc: Global) -> Result<DbType, Memory> {
 /// Three rows, each with one part: 1 to 3, with the positions 10 to 30.
 fn table(alloc: Global) -> Result<Value, Memory> {
     let mut rows = List::new(alloc);
-    for row in 1..4 {
-        rows.push(parts(alloc, row, subs(alloc, 10 * row, 5)?)?)?;
-    }
+    rows.push(parts(alloc, 1, subs(alloc, 10, 5)?)?)?;
+    rows.push(parts(alloc, 2, subs(alloc, 20, 5)?)?)?;
+    rows.push(parts(alloc, 3, subs(alloc, 30, 5)?)?)?;
     Ok(Value::Rec(one(alloc, Value::Arr(rows))?))
 }
 

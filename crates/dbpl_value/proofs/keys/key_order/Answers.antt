@@ -1,4 +1,4 @@
-use Rattle.std.proofs.Common.{◌≡◌, ◌<◌, ◌≤◌, true, length, sym, ap, ◌∙◌, arith}
+use Rattle.std.proofs.Common.{◌≡◌, ◌<◌, true, length, sym, ap, ◌∙◌, arith}
 use Rattle.std.specs.Ordering.{is_ne}
 use Rattle.dbpl_value.proofs.KeysLemmas.{key_cmp-from, named_cmp, slice_cmp-differ, slice_cmp-done}
 use Rattle.dbpl_value.proofs.keys.key_order.Goals as goal

@@ -1,4 +1,4 @@
-use Rattle.std.proofs.Common.{◌≡◌, ◌<◌, ◌≤◌, Bool, false, true, min, length, get_or, sym, ◌∙◌, arith}
+use Rattle.std.proofs.Common.{◌≡◌, ◌<◌, ◌≤◌, false, true, min, length, sym, ◌∙◌, arith}
 use Rattle.dbpl_value.specs.Types.{is_same_name}
 use Rattle.dbpl_value.proofs.KeysLemmas.{part_named-end, part_named-here, part_named-later}
 use Rattle.dbpl_value.proofs.keys.part_named.Goals as goal

@@ -1,8 +1,8 @@
-use Rattle.std.proofs.Common.{◌≡◌, Err, None, Some, sym, ap, subst, ◌∙◌}
-use Rattle.std.specs.Prelude.{IsTrue, slice_get}
+use Rattle.std.proofs.Common.{◌≡◌, Err, None, Some, sym, ap, ◌∙◌}
+use Rattle.std.specs.Prelude.{slice_get}
 use Rattle.dbpl_value.specs.Keys.{parts_of}
 use Rattle.dbpl_value.specs.Paths.{place_of}
-use Rattle.dbpl_value.proofs.PathsLemmas.{Reached, reached-next, reached-refused}
+use Rattle.dbpl_value.proofs.PathsLemmas.{reached-next, reached-refused}
 use Rattle.dbpl_value.proofs.paths.at_path.Goals as goal
 
 pub returns-in-None-clause-part : goal.returns-in-None-clause-part

@@ -1,4 +1,4 @@
-use Rattle.std.proofs.Common.{◌≡◌, ap, subst, sym, true, ◌∙◌}
+use Rattle.std.proofs.Common.{ap, sym, ◌∙◌}
 use Rattle.dbpl_value.specs.Keys.{keys_rise}
 use Rattle.dbpl_value.specs.Values.{is_of}
 use Rattle.dbpl_value.specs.declared.value.Value.{Value}

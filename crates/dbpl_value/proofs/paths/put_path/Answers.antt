@@ -1,4 +1,4 @@
-use Rattle.std.proofs.Common.{◌≡◌, ap, sym, ◌∙◌}
+use Rattle.std.proofs.Common.{◌≡◌, ap, ◌∙◌}
 use Rattle.dbpl_value.specs.Paths.{with_part_at}
 use Rattle.dbpl_value.specs.Values.{is_of}
 use Rattle.dbpl_value.specs.declared.value.Value.{Value}

@@ -1,8 +1,6 @@
-use Rattle.std.proofs.Common.{◌≡◌, ◌+◌, ◌-◌, ◌^◌, ◌<◌, ◌≤◌, min, length, take, ap, sym, ◌∙◌, arith}
-use Rattle.std.specs.List.{sum_by, zip}
-use Rattle.dbpl_value.specs.Keys.{parts_of}
+use Rattle.std.proofs.Common.{◌<◌, ◌≤◌, min, length, arith}
 use Rattle.dbpl_value.proofs.Pairs.{take-zip-all}
-use Rattle.dbpl_value.proofs.SizesLemmas.{field_size, size_of-Rec, size_of_fields-more}
+use Rattle.dbpl_value.proofs.SizesLemmas.{size_of-Rec, size_of_fields-more}
 use Rattle.dbpl_value.proofs.sizes.+sizes.Goals as goal
 
 pub size_of-returns-in-Rec : goal.size_of-returns-in-Rec
