@@ -1,11 +1,11 @@
 -- The order of keys is total, and a binary search finds the record with a key.
-use Rattle.std.proofs.Common.{◌≡◌, ◌≢◌, ◌+◌, ◌<◌, ◌≤◌, ℕ, zero, suc, Bool, true, false, not, ◌&&◌, List, [], ◌∷◌, length, get_or, Result, Ok, Err, ◌⊎◌, inl, inr, refl, ap, sym, ◌∙◌, arith}
+use Rattle.std.proofs.Common.{◌≡◌, ◌<◌, ◌≤◌, ℕ, zero, suc, Bool, true, false, List, [], ◌∷◌, length, get_or, Err, ◌⊎◌, inl, inr, refl, ap, sym, ◌∙◌, arith}
 use Rattle.std.proofs.lemmas.Bool.{cases_lt}
 use Rattle.std.proofs.lemmas.List.Sums.{position_or_len_is}
 use Rattle.std.specs.Prelude.{ℤ, pos}
 use Rattle.std.specs.Cmp.{IsTotalOrder, first_so, int_cmp_total, second_so}
 use Rattle.std.specs.Cmp.Lexicographic.{lists_total}
-use Rattle.std.specs.List.{HoldsAt, AllWithin, list_all, position_or_len}
+use Rattle.std.specs.List.{HoldsAt, list_all, position_or_len}
 use Rattle.std.specs.List.Sorted.{IsBinarySearchResult, IsNonDecreasingBy, IsPartitionPoint}
 use Rattle.std.specs.Ordering.{is_eq, is_lt, ordering_index, ordering_reverse}
 use Rattle.std.specs.declared.cmp.Ordering.{Ordering}
@@ -59,7 +59,7 @@ keys_rise-at t [] i j d h g k = absurd (omega arith)
 keys_rise-at t (x ∷ xs) zero zero d h g k = absurd (omega arith)
 keys_rise-at t (x ∷ xs) zero (suc j) d h g k =
     is_lt-Less _ (list_all-get_or (λ later. is_lt (key_cmp (key_of t x) (key_of t later))) xs j d
-      (first_so (list_all (λ later. is_lt (key_cmp (key_of t x) (key_of t later))) xs) (keys_rise t xs) h) (omega arith))
+    (first_so (list_all (λ later. is_lt (key_cmp (key_of t x) (key_of t later))) xs) (keys_rise t xs) h) (omega arith))
 keys_rise-at t (x ∷ xs) (suc i) zero d h g k = absurd (omega arith)
 keys_rise-at t (x ∷ xs) (suc i) (suc j) d h g k =
     keys_rise-at t xs i j d (second_so (list_all (λ later. is_lt (key_cmp (key_of t x) (key_of t later))) xs) (keys_rise t xs) h)
@@ -79,11 +79,11 @@ place-found t key records i rises within here =
         is_eq (key_cmp (key_of t (get_or records k (value.Num (pos 0)))) key) ≡ false
     before k below o e =
         ap is_eq (
-          sym (
-            cmp-tie key_cmp_total (key_of t (get_or records k (value.Num (pos 0))))
-            (key_of t (get_or records i (value.Num (pos 0)))) key (here (value.Num (pos 0)))
-          )
-          ∙ keys_rise-at t records k i (value.Num (pos 0)) rises below within
+        sym (
+        cmp-tie key_cmp_total (key_of t (get_or records k (value.Num (pos 0))))
+        (key_of t (get_or records i (value.Num (pos 0)))) key (here (value.Num (pos 0)))
+        )
+        ∙ keys_rise-at t records k i (value.Num (pos 0)) rises below within
         )
 
 never : (o : Ordering) → (o ≡ Less) ⊎ (o ≡ Greater) → is_eq o ≡ false

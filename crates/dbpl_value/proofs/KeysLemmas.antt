@@ -1,5 +1,5 @@
 -- The loops that compare keys: two lists are compared, or a part is looked for, from one position on.
-use Rattle.std.proofs.Common.{◌≡◌, ◌+◌, ◌-◌, ◌<◌, ◌≤◌, ℕ, min, Bool, true, false, if◌then◌else◌, List, [], ◌∷◌, map, length, drop, get_or, Option, Some, None, refl, ap, sym, ◌∙◌, arith, add-one, drop-cons, length-drop}
+use Rattle.std.proofs.Common.{◌≡◌, ◌+◌, ◌-◌, ◌<◌, ◌≤◌, ℕ, min, true, false, if◌then◌else◌, List, [], ◌∷◌, map, length, drop, get_or, Some, None, refl, ap, sym, ◌∙◌, arith, add-one, drop-cons, length-drop}
 use Rattle.std.proofs.lemmas.List.{drop_all}
 use Rattle.std.proofs.lemmas.Bool.Decides.{nat_tests}
 use Rattle.std.specs.Cmp.Lexicographic.{slice_cmp}
@@ -93,7 +93,7 @@ key_cmp-from t a b keys order e h =
     sym h
     ∙ ap (λ ks. slice_cmp (named_cmp t a b) ks ks) e
     ∙ sym (slice_cmp-map (slice_cmp int_cmp) (component_named (fields_of (element_of t)) (parts_of a))
-      (component_named (fields_of (element_of t)) (parts_of b)) (keys_of t) (keys_of t))
+    (component_named (fields_of (element_of t)) (parts_of b)) (keys_of t) (keys_of t))
 
 pub key_cmp-given :
     (t : DbType) (element : Value) (keys : List (List ℕ)) (key : List Value) (order : Ordering) →
@@ -103,7 +103,7 @@ key_cmp-given t element keys key order e h =
     sym h
     ∙ ap (λ ks. slice_cmp (given_cmp t element) ks key) e
     ∙ sym (slice_cmp-map (slice_cmp int_cmp) (component_named (fields_of (element_of t)) (parts_of element))
-      component_of (keys_of t) key)
+    component_of (keys_of t) key)
 
 -- no item is left
 pub slice_cmp-done :

@@ -1,8 +1,8 @@
 -- The walk over two lists side by side, as over the fields of a record type and the parts of a record.
-use Rattle.std.proofs.Common.{◌≡◌, ◌+◌, ◌<◌, ◌≤◌, ℕ, min, List, [], ◌∷◌, ◌++◌, map, length, take, get_or, refl, ap, sym, ◌∙◌, arith}
-use Rattle.std.specs.List.{sum_by, zip}
+use Rattle.std.proofs.Common.{◌≡◌, ◌+◌, ◌<◌, ◌≤◌, ℕ, min, Bool, List, [], ◌∷◌, ◌++◌, map, length, take, get_or, refl, ap, sym, ◌∙◌, arith}
+use Rattle.std.specs.List.{flat_map, list_all, sum_by, zip}
 use Rattle.std.proofs.lemmas.List.{take_all, take_more}
-use Rattle.std.proofs.lemmas.List.Folds.{fold-map}
+use Rattle.std.proofs.lemmas.List.Folds.{flat_map-map, fold-map, list_all-map}
 use Rattle.std.proofs.lemmas.Slice.Zip.{get_or-zip, length-zip}
 
 module _ {A B : Type 0} where
@@ -14,7 +14,7 @@ module _ {A B : Type 0} where
       let short : i < length (zip xs ys) = rw length-zip (omega arith) in
       take_more (zip xs ys) i (x, y) short
       ∙ ap (λ (p : A × B). take i (zip xs ys) ++ p ∷ [])
-        (get_or-zip xs ys i (x, y) hx hy ∙ (λ j. (sym ex j, sym ey j)))
+      (get_or-zip xs ys i (x, y) hx hy ∙ (λ j. (sym ex j, sym ey j)))
 
   -- all pairs
   pub take-zip-all :
@@ -36,3 +36,19 @@ pub sum_by-zip_map :
 sum_by-zip_map {A} {B} g xs ys =
     ap (sum_by (λ (p : (B → ℕ) × B). p.0 p.1)) (zip-map g xs ys)
     ∙ fold-map (λ (total : ℕ) (p : (B → ℕ) × B). total + p.0 p.1) (λ (p : A × B). (g p.0, p.1)) 0 (zip xs ys)
+
+-- the lists that functions give of their values, one after the other
+pub flat_map-zip_map :
+    {A B C : Type 0} (g : A → B → List C) (xs : List A) (ys : List B) →
+    flat_map (λ (p : (B → List C) × B). p.0 p.1) (zip (map g xs) ys) ≡ flat_map (λ (p : A × B). g p.0 p.1) (zip xs ys)
+flat_map-zip_map {A} {B} {C} g xs ys =
+    ap (flat_map (λ (p : (B → List C) × B). p.0 p.1)) (zip-map g xs ys)
+    ∙ flat_map-map (λ (p : (B → List C) × B). p.0 p.1) (λ (p : A × B). (g p.0, p.1)) (zip xs ys)
+
+-- tests that all pass at their values
+pub list_all-zip_map :
+    {A B : Type 0} (g : A → B → Bool) (xs : List A) (ys : List B) →
+    list_all (λ (p : (B → Bool) × B). p.0 p.1) (zip (map g xs) ys) ≡ list_all (λ (p : A × B). g p.0 p.1) (zip xs ys)
+list_all-zip_map {A} {B} g xs ys =
+    ap (list_all (λ (p : (B → Bool) × B). p.0 p.1)) (zip-map g xs ys)
+    ∙ list_all-map (λ (p : (B → Bool) × B). p.0 p.1) (λ (p : A × B). (g p.0, p.1)) (zip xs ys)

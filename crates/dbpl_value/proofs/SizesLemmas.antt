@@ -1,12 +1,11 @@
 -- The coded size of a record is the sum over its fields.
-use Rattle.std.proofs.Common.{◌≡◌, ◌+◌, ◌-◌, ◌^◌, ◌<◌, ◌≤◌, ℕ, min, List, length, take, get_or, ap, ◌∙◌, zero-add, [], ◌∷◌}
+use Rattle.std.proofs.Common.{◌≡◌, ◌+◌, ◌<◌, ℕ, List, length, take, get_or, ap, ◌∙◌, zero-add, [], ◌∷◌}
 use Rattle.std.specs.List.{sum_by, zip}
 use Rattle.std.proofs.lemmas.List.Sums.{sum_by-append}
 use Rattle.dbpl_value.proofs.Pairs.{sum_by-zip_map, take-zip-more}
 use Rattle.dbpl_value.proofs.TypeParts.{by_answers-out}
 use Rattle.dbpl_value.specs.Keys.{parts_of}
 use Rattle.dbpl_value.specs.Sizes.{size_level, size_of}
-use Rattle.dbpl_value.specs.declared.db_type.DbType.{DbType, out-DbType}
 use Rattle.dbpl_value.specs.declared.db_type.DbType.TheVariants as types
 use Rattle.dbpl_value.specs.declared.db_type.DbType.TheVariants.{outs-Rec}
 use Rattle.dbpl_value.specs.declared.field.Field.{Field}

@@ -1,5 +1,5 @@
 -- The values of a type, one level at a time.
-use Rattle.std.proofs.Common.{◌≡◌, ◌+◌, ◌<◌, ◌≤◌, ℕ, zero, suc, Bool, true, false, ◌&&◌, List, [], ◌∷◌, map, length, get_or, Option, Some, None, refl, ap, sym, subst, ◌∙◌, arith, rules}
+use Rattle.std.proofs.Common.{◌≡◌, ℕ, zero, suc, Bool, true, List, [], ◌∷◌, map, length, Option, Some, None, refl, ap, sym, subst, ◌∙◌, arith}
 use Rattle.std.proofs.lemmas.Bool.{eqb-true}
 use Rattle.std.proofs.lemmas.List.{length-map}
 use Rattle.std.specs.Cmp.{first_so, second_so}
@@ -9,13 +9,14 @@ use Rattle.std.specs.Prelude.{nat_eq}
 use Rattle.dbpl_value.proofs.TypeParts.{by_parts-out}
 use Rattle.dbpl_value.specs.Keys.{has_key, key_from, keys_rise, parts_level, parts_of}
 use Rattle.dbpl_value.specs.Paths.{part_type, part_type_level, place_of, place_of_key, type_at}
-use Rattle.dbpl_value.specs.Types.{Range, count_of, element_level, range_level}
+use Rattle.dbpl_value.specs.Types.{element_level, range_level}
 use Rattle.dbpl_value.specs.Values.{is_number, is_of, is_of_level}
 use Rattle.dbpl_value.specs.declared.db_type.DbType.{DbType, DbType-F, map-DbType, out-DbType, roll-DbType, roll-out-DbType}
 use Rattle.dbpl_value.specs.declared.db_type.DbType.TheOpen as kinds
 use Rattle.dbpl_value.specs.declared.db_type.DbType.TheVariants as types
 use Rattle.dbpl_value.specs.declared.db_type.DbType.TheVariants.{rolls-Rel}
 use Rattle.dbpl_value.specs.declared.field.Field.{Field}
+use Rattle.dbpl_value.specs.declared.range.Range.{Range}
 use Rattle.dbpl_value.specs.declared.step.Step.{Step}
 use Rattle.dbpl_value.specs.declared.step.Step.TheVariants as step
 use Rattle.dbpl_value.specs.declared.value.Value.{Value, Value-F, out-Value}
@@ -47,7 +48,7 @@ is_of-out t v =
 zip-test :
     (fields : List Field) (parts : List Value) (i : ℕ) (part : Value) (t : DbType) → length parts ≡ length fields →
     list_all (λ (pair : (Value → Bool) × Value). pair.0 pair.1)
-      (zip (map (λ (field : Field × (Value → Bool)). field.1) (map (λ (field : Field). (field, is_of field.kind)) fields)) parts)
+    (zip (map (λ (field : Field × (Value → Bool)). field.1) (map (λ (field : Field). (field, is_of field.kind)) fields)) parts)
     ≡ true →
     slice_get parts i ≡ Some part →
     is_of (option_map_or (λ (field : Field). field.kind) (slice_get fields i) t) part ≡ true
@@ -60,7 +61,7 @@ zip-test (f ∷ fs) (w ∷ ws) zero part t long h e =
 zip-test (f ∷ fs) (w ∷ ws) (suc i) part t long h e =
     zip-test fs ws i part t (omega arith) (second_so (is_of f.kind w) _ h) e
 
-number_has_none :
+pub number_has_none :
     (range : Option Range) (v : Value-F Value) (place : ℕ) (part : Value) → is_number range v ≡ true →
     slice_get (parts_level v) place ≡ Some part → ⊥
 number_has_none None v place part h e = cc
@@ -92,7 +93,7 @@ part_is_of t (kinds.Arr index element) (values.Rec parts) place part h e = cc
 part_is_of t (kinds.Arr index element) (values.Rel parts) place part h e = cc
 part_is_of t (kinds.Rec fields) (values.Num n) place part h e = cc
 part_is_of t (kinds.Rec fields) (values.Arr parts) place part h e = cc
-part_is_of t (kinds.Rec fields) (values.Rec parts) place part h e = 
+part_is_of t (kinds.Rec fields) (values.Rec parts) place part h e =
     let long = eqb-true (length parts) _ (first_so (nat_eq (length parts) _) _ h) in
     zip-test fields parts place part t (long ∙ simp length-map) (second_so (nat_eq (length parts) _) _ h) e
 part_is_of t (kinds.Rec fields) (values.Rel parts) place part h e = cc
@@ -125,17 +126,22 @@ key_step t (kinds.Rec fields) (values.Rec parts) test part h e = let none = none
 key_step t (kinds.Rec fields) (values.Rel parts) test part h e = cc
 key_step t (kinds.Rel keys record_type) v test part h e = refl
 
+-- the part to which a step leads stands where its type is that at the step
+pub type_at-part :
+    (t : DbType) (v : Value) (next : Step) (part : Value) → is_of t v ≡ true →
+    slice_get (parts_of v) (place_of t v next) ≡ Some part → part_type t (place_of t v next) ≡ type_at t next
+type_at-part t v (step.Field number) part h e = refl
+type_at-part t v (step.Index number) part h e = refl
+type_at-part t v (step.Key components) part h e =
+    key_step t (out-DbType t) (out-Value v) (has_key t (key_from components)) part (sym (is_of-out t v) ∙ h) e
+
 -- the part to which a step leads is of the type at that step
 pub is_of-step :
     (t : DbType) (v : Value) (next : Step) (part : Value) → is_of t v ≡ true →
     slice_get (parts_of v) (place_of t v next) ≡ Some part → is_of (type_at t next) part ≡ true
-is_of-step t v (step.Field number) part h e = is_of-part t v number part h e
-is_of-step t v (step.Index number) part h e = is_of-part t v number part h e
-is_of-step t v (step.Key components) part h e =
-    let test = has_key t (key_from components) in
-    subst (λ (kind : DbType). is_of kind part ≡ true)
-    (key_step t (out-DbType t) (out-Value v) test part (sym (is_of-out t v) ∙ h) e)
-    (is_of-part t v (place_of t v (step.Key components)) part h e)
+is_of-step t v next part h e =
+    subst (λ (kind : DbType). is_of kind part ≡ true) (type_at-part t v next part h e)
+    (is_of-part t v (place_of t v next) part h e)
 
 relation_rises :
     (t : DbType) (records : List Value) (level : DbType-F DbType Field) → level ≡ out-DbType t →

@@ -1,9 +1,8 @@
 -- The part of a value to which a path leads.
-use Rattle.std.specs.Prelude.{ℕ, ◌+◌, Bool, List, [], ◌∷◌, length, Result, Ok, Err, slice_get, slice_set}
+use Rattle.std.specs.Prelude.{◌≡◌, ⊤, ℕ, ◌+◌, Bool, IfSome, List, [], ◌∷◌, length, Result, Ok, Err, slice_get, slice_set}
 use Rattle.std.specs.List.{position_or_len}
 use Rattle.std.specs.Option.{option_map_or}
-use Rattle.std.specs.Result.{result_map_both}
-use Rattle.dbpl_value.specs.Keys.{has_key, key_from, parts_level, parts_of}
+use Rattle.dbpl_value.specs.Keys.{has_key, key_from, key_of, parts_level, parts_of}
 use Rattle.dbpl_value.specs.Types.{element_of}
 use Rattle.dbpl_value.specs.declared.db_type.DbType.{DbType, DbType-F, out-DbType}
 use Rattle.dbpl_value.specs.declared.db_type.DbType.TheOpen as kinds
@@ -72,11 +71,17 @@ with_parts (values.Rel old) parts = value.Rel parts
 abbrev pub with_part : Value → ℕ → Value → Value
 with_part v place part = with_parts (out-Value v) (slice_set (parts_of v) place part)
 
--- THE value with `new` in place of the part at a path, or the same refusal
-abbrev pub with_part_at : ℕ → DbType → Value → List Step → Value → Result Value PathErr
-with_part_at number t v [] new = Ok new
-with_part_at number t v (next ∷ path) new =
-    option_map_or
-    (λ part. result_map_both (with_part v (place_of t v next)) (λ refusal. refusal)
-        (with_part_at (number + 1) (type_at t next) part path new))
-    (slice_get (parts_of v) (place_of t v next)) (Err (refusal_of number next))
+-- THE value with `new` in place of the part at a path, and the value itself where the path leads to none
+abbrev pub with_part_at : DbType → Value → List Step → Value → Value
+with_part_at t v [] new = new
+with_part_at t v (next ∷ path) new =
+    option_map_or (λ part. with_part v (place_of t v next) (with_part_at (type_at t next) part path new))
+    (slice_get (parts_of v) (place_of t v next)) v
+
+-- putting `new` at a path leaves the key of each record on the path as it is
+abbrev pub KeepsKeys : DbType → Value → List Step → Value → Type 0
+KeepsKeys t v [] new = ⊤
+KeepsKeys t v (next ∷ path) new =
+    IfSome (slice_get (parts_of v) (place_of t v next))
+    (λ part. (key_of t (with_part_at (type_at t next) part path new) ≡ key_of t part)
+    × KeepsKeys (type_at t next) part path new)

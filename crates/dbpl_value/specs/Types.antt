@@ -1,5 +1,5 @@
 -- Which descriptors are types, and how many values an ordinal type has.
-use Rattle.std.specs.Prelude.{ℕ, ◌+◌, ◌*◌, ◌^◌, max, nat_abs, ℤ, pos, negsuc, ◌-ℤ◌, int_le, fold, Bool, true, false, not, ◌&&◌, nat_eq, nat_le, if◌then◌else◌, List, [], ◌∷◌, ◌++◌, map, length, sum, Option, Some, None, is_some}
+use Rattle.std.specs.Prelude.{ℕ, ◌+◌, ◌*◌, max, nat_abs, ℤ, pos, negsuc, ◌-ℤ◌, int_le, fold, Bool, true, false, not, ◌&&◌, nat_eq, nat_le, if◌then◌else◌, List, [], ◌∷◌, ◌++◌, map, length, sum, Option, Some, None, is_some}
 use Rattle.std.specs.Cmp.Lexicographic.{pointwise}
 use Rattle.std.specs.List.{flat_map, list_all, list_any}
 use Rattle.std.specs.Option.{option_map_or}
@@ -7,6 +7,7 @@ use Rattle.dbpl_base.specs.Words.{is_letter, is_word_byte}
 use Rattle.dbpl_value.specs.declared.db_type.DbType.{DbType, DbType-F, fold-DbType, out-DbType, para-DbType}
 use Rattle.dbpl_value.specs.declared.db_type.DbType.TheOpen as kinds
 use Rattle.dbpl_value.specs.declared.field.Field.{Field}
+use Rattle.dbpl_value.specs.declared.range.Range.{Range}
 
 -- By recursion on a type: its answer, from the types that stand in it and their answers. A field has that of its type.
 abbrev pub by_parts : (A : Type 0) → (DbType-F (DbType × A) (Field × A) → A) → DbType → A
@@ -17,10 +18,6 @@ abbrev pub by_answers : (A : Type 0) → (DbType-F A A → A) → DbType → A
 by_answers A answer = fold-DbType A A answer (λ field. field.kind)
 
 -- ---- ordinal types
-
-pub record Range : Type 0 where
-  pub least : ℤ
-  pub greatest : ℤ
 
 abbrev pub is_in : Range → ℤ → Bool
 is_in range n = int_le range.least n && int_le n range.greatest
@@ -124,7 +121,7 @@ abbrev pub are_different : List (List ℕ) → Bool
 are_different [] = true
 are_different (name ∷ names) = not (list_any (is_same_name name) names) && are_different names
 
--- one name or more, all identifiers, and none twice
+-- all are identifiers, and none stands there twice
 abbrev pub are_names : List (List ℕ) → Bool
 are_names names = list_all is_identifier names && are_different names
 
@@ -211,7 +208,10 @@ inside_level _ = []
 abbrev pub inside : DbType → List DbType
 inside t = by_parts (List DbType) inside_level t
 
--- THE test of a descriptor: it and every type inside it keeps the rules, to depth 64 at most, and with relations to
--- depth 8 at most
+-- it and every type inside it keeps the rules
+abbrev pub is_sound : DbType → Bool
+is_sound t = list_all keeps_rules (t ∷ inside t)
+
+-- THE test of a descriptor: sound, to depth 64 at most, and with relations to depth 8 at most
 abbrev pub is_type : DbType → Bool
-is_type t = list_all keeps_rules (t ∷ inside t) && nat_le (depth_of t) 64 && nat_le (relations_of t) 8
+is_type t = is_sound t && nat_le (depth_of t) 64 && nat_le (relations_of t) 8

@@ -1,13 +1,14 @@
 -- Which values a type has, and with which a variable of it begins.
-use Rattle.std.specs.Prelude.{ℕ, ℤ, pos, Bool, false, ◌&&◌, nat_eq, if◌then◌else◌, List, [], map, length, replicate, Option, Some, None}
+use Rattle.std.specs.Prelude.{ℕ, ℤ, pos, Bool, false, ◌&&◌, nat_eq, if◌then◌else◌, List, [], map, length, replicate, Option, Some}
 use Rattle.std.specs.List.{list_all, zip}
 use Rattle.std.specs.Option.{option_map_or}
 use Rattle.dbpl_value.specs.Keys.{keys_rise}
-use Rattle.dbpl_value.specs.Types.{Range, by_parts, count_of, is_in, range_level}
+use Rattle.dbpl_value.specs.Types.{by_parts, count_of, is_in, range_level}
 use Rattle.dbpl_value.specs.declared.db_type.DbType.{DbType, DbType-F}
 use Rattle.dbpl_value.specs.declared.db_type.DbType.TheOpen as kinds
 use Rattle.dbpl_value.specs.declared.db_type.DbType.TheVariants as types
 use Rattle.dbpl_value.specs.declared.field.Field.{Field}
+use Rattle.dbpl_value.specs.declared.range.Range.{Range}
 use Rattle.dbpl_value.specs.declared.value.Value.{Value, Value-F, out-Value}
 use Rattle.dbpl_value.specs.declared.value.Value.TheOpen as values
 use Rattle.dbpl_value.specs.declared.value.Value.TheVariants as value

@@ -21,7 +21,8 @@ pub fn same_type(a: &DbType, b: &DbType) -> bool
             *least == *low && *greatest == *high && same_type(host.get(), other.get())
         }
         (DbType::Arr(index, element), DbType::Arr(other_index, other_element)) => {
-            same_type(index.get(), other_index.get()) && same_type(element.get(), other_element.get())
+            same_type(index.get(), other_index.get())
+                && same_type(element.get(), other_element.get())
         }
         (DbType::Rec(fields), DbType::Rec(others)) => {
             same_fields(fields.as_slice(), others.as_slice())

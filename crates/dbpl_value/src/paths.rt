@@ -1,14 +1,17 @@
 //! Paths into values.
-ghost use Rattle.std.specs.Prelude.{◌≡◌, IfOk, IsTrue};
+ghost use Rattle.std.specs.Prelude.{◌≡◌, Err, IfErr, IfOk, IfSome, IsOk, IsTrue, OnErr, OnOk, slice_get, slice_set};
 ghost use Rattle.std.specs.List.{position_or_len};
+ghost use Rattle.std.specs.Option.{option_map_or};
 ghost use Rattle.std.specs.Result.{result_map_both};
 ghost use Rattle.dbpl_value.specs.Keys.{has_key, key_from, keys_rise};
-ghost use Rattle.dbpl_value.specs.Paths.{part_at, part_type as part_type_of, place_of as place_of_step, refusal_of as refusal_of_step, type_at as type_at_step, type_at_path};
+ghost use Rattle.dbpl_value.specs.Paths.{KeepsKeys, part_at, part_type as part_type_of, place_of as place_of_step, refusal_of as refusal_of_step, type_at as type_at_step, type_at_path, with_part_at};
 ghost use Rattle.dbpl_value.specs.Values.{is_of};
 
 use crate::keys::order_to_key;
 use crate::levels::{element_of, part_of, parts_of};
 use crate::{DbType, PathErr, Step, Value};
+use dbpl_base::List;
+use std::mem;
 
 /// The part at this path of a value of type `t`.
 pub fn at_path<'a>(t: &DbType, v: &'a Value, path: &[Step]) -> Result<&'a Value, PathErr>
@@ -26,6 +29,58 @@ pub fn at_path<'a>(t: &DbType, v: &'a Value, path: &[Step]) -> Result<&'a Value,
         kind = type_at(kind, step);
     }
     Ok(part)
+}
+
+/// Puts `new` in the place of the part at this path of a value of type `t`.
+pub fn put_path(t: &DbType, v: &mut Value, path: &[Step], new: Value) -> Result<(), PathErr>
+    ensures ok { IsTrue (is_of t.now v.old) → OnOk result (IsOk (part_at 0 t.now v.old path.now) × (v.new ≡ with_part_at t.now v.old path.now new)) }
+    ensures err { IsTrue (is_of t.now v.old) → IfErr result (λ refusal. part_at 0 t.now v.old path.now ≡ Err refusal) }
+    ensures kept { OnErr result (v.new ≡ v.old) }
+    ensures of_type { IsTrue (is_of t.now v.old) → IsTrue (is_of (type_at_path t.now path.now) new) → KeepsKeys t.now v.old path.now new → OnOk result (IsTrue (is_of t.now v.new)) }
+{
+    at_path(t, v, path)?;
+    *v = put_part(t, mem::replace(v, Value::Num(0)), path, new);
+    Ok(())
+}
+
+/// The value with `new` in the place of the part at this path, or the value itself where the path leads to none.
+#[cycle(put)]
+fn put_part(t: &DbType, v: Value, path: &[Step], new: Value) -> Value
+    ensures { IsTrue (is_of t.now v) → result ≡ with_part_at t.now v path.now new }
+{
+    match path {
+        [] => new,
+        [step, path @ ..] => {
+            let place = place_of(t, &v, step);
+            let kind = type_at(t, step);
+            match v {
+                Value::Num(n) => Value::Num(n),
+                Value::Arr(parts) => Value::Arr(put_in(kind, parts, place, path, new)),
+                Value::Rec(parts) => Value::Rec(put_in(kind, parts, place, path, new)),
+                Value::Rel(parts) => Value::Rel(put_in(kind, parts, place, path, new)),
+            }
+        }
+    }
+}
+
+/// The parts with `new` at this path of the one at `place`, which is of type `t`.
+#[cycle(put)]
+fn put_in(
+    t: &DbType,
+    mut parts: List<Value>,
+    place: usize,
+    path: &[Step],
+    new: Value,
+) -> List<Value>
+    ensures { IfSome (slice_get parts place) (λ part. IsTrue (is_of t.now part)) → result ≡ option_map_or (λ part. slice_set parts place (with_part_at t.now part path.now new)) (slice_get parts place) parts }
+{
+    if place >= parts.len() {
+        return parts;
+    }
+    let part = parts.replace(place, Value::Num(0));
+    let put = put_part(t, part, path, new);
+    parts.replace(place, put);
+    parts
 }
 
 /// The position of the part to which a step leads.

@@ -11,11 +11,11 @@ returns-then-is_ne c =
     let key_in : c.loop-i.i < length c.args.key.now = omega arith in
     let order : c.numbers_order-order.result ≡ compared c.index-keys-i.result c.index-key-i.result = cc in
     let ne : is_ne (compared c.index-keys-i.result c.index-key-i.result) ≡ true =
-        sym (ap is_ne order) ∙ sym c.is_ne.ensures ∙ c.if-is_ne.true
+    sym (ap is_ne order) ∙ sym c.is_ne.ensures ∙ c.if-is_ne.true
     in
     let rest =
-        slice_cmp-differ compared keys c.args.key.now c.loop-i.i c.index-keys-i.result c.index-key-i.result keys_in key_in
-        c.index-keys-i.is c.index-key-i.is ne
+    slice_cmp-differ compared keys c.args.key.now c.loop-i.i c.index-keys-i.result c.index-key-i.result keys_in key_in
+    c.index-keys-i.is c.index-key-i.is ne
     in
     key_cmp-given c.args.t.now c.args.element.now keys c.args.key.now c.numbers_order-order.result c.keys_of-keys.ensures
     (c.loop-i.invariant ∙ rest ∙ sym order)

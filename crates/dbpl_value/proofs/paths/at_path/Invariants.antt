@@ -1,6 +1,4 @@
-use Rattle.std.proofs.Common.{◌≡◌, drop}
 use Rattle.std.specs.Prelude.{IsTrue}
-use Rattle.dbpl_value.specs.Paths.{part_at, type_at_path}
 use Rattle.dbpl_value.specs.Values.{is_of}
 use Rattle.dbpl_value.proofs.PathsLemmas.{Reached}
 use Rattle.dbpl_value.proofs.paths.at_path.Given as goal

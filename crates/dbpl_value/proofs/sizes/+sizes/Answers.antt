@@ -1,8 +1,6 @@
-use Rattle.std.proofs.Common.{◌≡◌, ◌+◌, ◌-◌, ◌^◌, ◌<◌, ◌≤◌, min, length, take, ap, sym, ◌∙◌, arith}
-use Rattle.std.specs.List.{sum_by, zip}
-use Rattle.dbpl_value.specs.Keys.{parts_of}
+use Rattle.std.proofs.Common.{◌<◌, ◌≤◌, min, length, arith}
 use Rattle.dbpl_value.proofs.Pairs.{take-zip-all}
-use Rattle.dbpl_value.proofs.SizesLemmas.{field_size, size_of-Rec, size_of_fields-more}
+use Rattle.dbpl_value.proofs.SizesLemmas.{size_of-Rec, size_of_fields-more}
 use Rattle.dbpl_value.proofs.sizes.+sizes.Goals as goal
 
 pub size_of-returns-in-Rec : goal.size_of-returns-in-Rec
@@ -15,8 +13,8 @@ size_of_fields-loop-i-preserved t c =
     let fields_in : c.loop-i.i < length c.args.fields.now = omega arith in
     let parts_in : c.loop-i.i < length c.args.parts.now = omega arith in
     let more =
-        size_of_fields-more c.args.fields.now c.args.parts.now c.loop-i.i c.index-fields-i.result c.index-parts-i.result
-        fields_in parts_in c.index-fields-i.is c.index-parts-i.is
+    size_of_fields-more c.args.fields.now c.args.parts.now c.loop-i.i c.index-fields-i.result c.index-parts-i.result
+    fields_in parts_in c.index-fields-i.is c.index-parts-i.is
     in
     let size = rw (← c.index-fields-i.is) at c.size_of.ensures in
     rw more (omega (arith, size))
