@@ -1,0 +1,11 @@
+pub mod KeyOrder
+pub mod KeysLemmas
+pub mod Names
+pub mod Pairs
+pub mod PathsLemmas
+pub mod PutLemmas
+pub mod SizesLemmas
+pub mod StartLemmas
+pub mod TypeParts
+pub mod TypedStart
+pub mod ValuesLemmas

@@ -1,0 +1,5 @@
+pub mod Keys
+pub mod Paths
+pub mod Sizes
+pub mod Types
+pub mod Values

@@ -1,0 +1,10 @@
+use crate::DbType;
+use dbpl_base::Name;
+
+/// A parameter: its name, its type, and whether it stands for the argument's variable (VAR) or for its value.
+#[derive(Debug, Drop)]
+pub struct Param {
+    pub name: Name,
+    pub kind: DbType,
+    pub by_ref: bool,
+}
