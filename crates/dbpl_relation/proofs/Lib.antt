@@ -2,6 +2,7 @@ pub mod Changing
 pub mod EditLemmas
 pub mod EqualityLemmas
 pub mod Filters
+pub mod ExampleTypes
 pub mod FirstAt
 pub mod Halving
 pub mod KeyLemmas

@@ -13,6 +13,8 @@ mod records;
 mod removal;
 mod replacing;
 mod selection;
+#[cfg(test)]
+mod tests;
 
 pub use assignment::assign_through;
 pub use change_err::ChangeErr;
