@@ -16,6 +16,26 @@ AreBlanks gap = IsTrue (list_all is_blank gap)
 abbrev pub OpensComment : List ℕ → Type 0
 OpensComment text = (rest : List ℕ) × (text ≡ codes "(*" ++ rest)
 
+-- the text begins with the two bytes that close one
+abbrev pub ClosesComment : List ℕ → Type 0
+ClosesComment text = (rest : List ℕ) × (text ≡ codes "*)" ++ rest)
+
+-- What follows an opening, up to and with the closing that belongs to it: the closing, or a whole comment and then such a text, or a byte at which neither stands and then such a text.
+pub data IsInside : List ℕ → Type 0 where
+  ends : (text : List ℕ) → text ≡ codes "*)" → IsInside text
+  nests : (text inner outer : List ℕ) → text ≡ codes "(*" ++ (inner ++ outer) → IsInside inner → IsInside outer → IsInside text
+  passes : (text : List ℕ) (byte : ℕ) (rest : List ℕ) → text ≡ byte ∷ rest → ¬ OpensComment text → ¬ ClosesComment text → IsInside rest → IsInside text
+
+-- a whole comment; comments nest
+abbrev pub IsComment : List ℕ → Type 0
+IsComment text = (inside : List ℕ) × (text ≡ codes "(*" ++ inside) × IsInside inside
+
+-- blanks and whole comments in turn
+pub data IsGap : List ℕ → Type 0 where
+  none : (gap : List ℕ) → gap ≡ [] → IsGap gap
+  blank : (gap : List ℕ) (byte : ℕ) (rest : List ℕ) → gap ≡ byte ∷ rest → IsTrue (is_blank byte) → IsGap rest → IsGap gap
+  comment : (gap whole rest : List ℕ) → gap ≡ whole ++ rest → IsComment whole → IsGap rest → IsGap gap
+
 -- no longer word of these bytes spells a lexeme
 abbrev pub IsLongest : List ℕ → List ℕ → Type 0
 IsLongest word rest =
@@ -42,6 +62,10 @@ ScansFrom IsGap place text (token ∷ next ∷ tokens) =
 -- the text of this unit has these tokens, and blanks alone stand between them
 abbrev pub ScansByBlanks : ℕ → List ℕ → List Token → Type 0
 ScansByBlanks unit text tokens = ScansFrom AreBlanks (start_of unit) text tokens
+
+-- THE tokens of a text: the text of this unit has these, with blanks and whole comments between them
+abbrev pub Scans : ℕ → List ℕ → List Token → Type 0
+Scans unit text tokens = ScansFrom IsGap (start_of unit) text tokens
 
 abbrev pub lexemes_of : List Token → List Lexeme
 lexemes_of tokens = map (λ token. token.lexeme) tokens
