@@ -1,0 +1,4 @@
+pub mod KeySpelling
+pub mod Numbers
+pub mod TypeSpelling
+pub mod ValueSpelling
