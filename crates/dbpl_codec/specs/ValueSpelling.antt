@@ -1,5 +1,5 @@
 -- The one spelling of a value, by its type.
-use Rattle.std.specs.Prelude.{ℕ, Bool, true, ◌&&◌, List, [], ◌∷◌, ◌++◌}
+use Rattle.std.specs.Prelude.{ℕ, pos, int_le, Bool, true, ◌&&◌, List, [], ◌∷◌, ◌++◌}
 use Rattle.std.specs.List.{flat_map, list_all, zip}
 use Rattle.dbpl_value.specs.Keys.{number_of, parts_of}
 use Rattle.dbpl_value.specs.Types.{by_answers}
@@ -26,12 +26,14 @@ abbrev pub bytes_of : DbType → Value → List ℕ
 bytes_of t = by_answers (Value → List ℕ) bytes_level t
 
 abbrev pub fits_level : DbType-F (Value → Bool) (Value → Bool) → Value → Bool
+fits_level (kinds.Enum names) v = int_le (number_of v) (pos 4294967295)
 fits_level (kinds.Sub host least greatest) v = host v
 fits_level (kinds.Arr index element) v = list_all element (parts_of v)
 fits_level (kinds.Rec fields) v = list_all (λ pair. pair.0 pair.1) (zip fields (parts_of v))
 fits_level (kinds.Rel keys record_type) v = count_fits (parts_of v) && list_all record_type (parts_of v)
 fits_level _ v = true
 
--- each relation in the value has fewer than 2^32 records, so that its count can be spelled
+-- each relation in the value has fewer than 2^32 records, and each constant of an enumeration is one of the first 2^32:
+-- so four bytes hold them
 abbrev pub value_fits : DbType → Value → Bool
 value_fits t = by_answers (Value → Bool) fits_level t
