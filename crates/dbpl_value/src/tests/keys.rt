@@ -1,9 +1,8 @@
 //! Keys of every kind.
-use super::{field, names, numbers, one, relation, two};
+use super::{field, names, numbers, relation, two};
 use crate::{DbType, Value, key_order, order_to_key};
-use dbpl_base::{Boxed, List, Memory};
+use dbpl_base::{Boxed, Memory, name_of};
 use std::alloc::Global;
-use std::cmp::Ordering;
 use std::test::Fail;
 
 /// A relation whose key is the second field, of this type.
@@ -16,91 +15,70 @@ fn keyed(alloc: Global, kind: DbType) -> Result<DbType, Memory> {
     relation(alloc, b"key", DbType::Rec(fields))
 }
 
-/// The kinds of ordinal type.
-fn ordinal(alloc: Global, kind: u8) -> Result<DbType, Memory> {
-    match kind {
-        0 => Ok(DbType::Int),
-        1 => Ok(DbType::Card),
-        2 => Ok(DbType::Bool),
-        3 => Ok(DbType::Char),
-        4 => Ok(DbType::Enum(names(alloc, b"red")?)),
-        _ => Ok(DbType::Sub(Boxed::new(alloc, DbType::Int)?, -3, 3)),
-    }
+/// The second key is the greater one, although the fields before it fall.
+fn rises(alloc: Global, kind: DbType, lesser: Value, greater: Value) -> Result<bool, Memory> {
+    let kind = keyed(alloc, kind)?;
+    let a = Value::Rec(two(alloc, Value::Num(7), lesser)?);
+    let b = Value::Rec(two(alloc, Value::Num(6), greater)?);
+    Ok(key_order(&kind, &a, &b).is_lt() && key_order(&kind, &b, &a).is_gt())
+}
+
+fn numbers_rise(alloc: Global, kind: DbType, lesser: i64, greater: i64) -> Result<bool, Memory> {
+    rises(alloc, kind, Value::Num(lesser), Value::Num(greater))
 }
 
 #[test]
-fn numbers_decide_whatever_stands_before_them(rt: HostRuntime) -> Result<(), Fail> {
+fn numbers_of_every_ordinal_type(rt: HostRuntime) -> Result<(), Fail> {
     let alloc = rt.alloc();
-    for (kind, lesser, greater) in [
-        (0, -2147483648, 2147483647),
-        (1, 0, 4294967295),
-        (2, 0, 1),
-        (3, 9, 255),
-        (4, 0, 1),
-        (5, -3, 3),
-    ] {
-        let kind = keyed(alloc, ordinal(alloc, kind)?)?;
-        let a = Value::Rec(numbers(alloc, &[7, lesser])?);
-        let b = Value::Rec(numbers(alloc, &[6, greater])?);
-        assert_eq!(rt; key_order(&kind, &a, &b), Ordering::Less);
-        assert_eq!(rt; key_order(&kind, &b, &a), Ordering::Greater);
-        assert_eq!(rt; key_order(&kind, &a, &a), Ordering::Equal);
-    }
+    assert!(rt; numbers_rise(alloc, DbType::Int, -2147483648, 2147483647)?);
+    assert!(rt; numbers_rise(alloc, DbType::Card, 0, 4294967295)?);
+    assert!(rt; numbers_rise(alloc, DbType::Bool, 0, 1)?);
+    assert!(rt; numbers_rise(alloc, DbType::Char, 9, 255)?);
+    assert!(rt; numbers_rise(alloc, DbType::Enum(names(alloc, b"red")?), 0, 1)?);
+    let subrange = DbType::Sub(Boxed::new(alloc, DbType::Int)?, -3, 3);
+    assert!(rt; numbers_rise(alloc, subrange, -3, 3)?);
     Ok(())
 }
 
-/// A record with this text in its second field.
-fn text(alloc: Global, bytes: &[i64]) -> Result<Value, Memory> {
-    Ok(Value::Rec(two(alloc, Value::Num(1), Value::Arr(numbers(alloc, bytes)?))?))
-}
-
-#[test]
-fn texts_are_compared_by_their_bytes(rt: HostRuntime) -> Result<(), Fail> {
-    let alloc = rt.alloc();
-    let array = DbType::Arr(
+fn text_type(alloc: Global) -> Result<DbType, Memory> {
+    Ok(DbType::Arr(
         Boxed::new(alloc, DbType::Bool)?,
         Boxed::new(alloc, DbType::Char)?,
-    );
-    let kind = keyed(alloc, array)?;
-    for (a, b, order) in [
-        ([97, 0], [97, 98], Ordering::Less),
-        ([98, 0], [97, 255], Ordering::Greater),
-        ([97, 98], [97, 98], Ordering::Equal),
-    ] {
-        assert_eq!(rt;
-            key_order(&kind, &text(alloc, &a)?, &text(alloc, &b)?),
-            order
-        );
-    }
-    Ok(())
+    ))
+}
+
+fn texts_rise(alloc: Global, lesser: &[i64], greater: &[i64]) -> Result<bool, Memory> {
+    let lesser = Value::Arr(numbers(alloc, lesser)?);
+    let greater = Value::Arr(numbers(alloc, greater)?);
+    rises(alloc, text_type(alloc)?, lesser, greater)
 }
 
 #[test]
-fn components_decide_in_declared_order(rt: HostRuntime) -> Result<(), Fail> {
+fn texts_by_their_bytes(rt: HostRuntime) -> Result<(), Fail> {
     let alloc = rt.alloc();
+    assert!(rt; texts_rise(alloc, &[97, 0], &[97, 98])?);
+    assert!(rt; texts_rise(alloc, &[97, 255], &[98, 0])?);
+    Ok(())
+}
+
+/// RELATION b, a OF RECORD a, b: CARDINAL END
+fn two_keys(alloc: Global) -> Result<DbType, Memory> {
     let fields = two(
         alloc,
         field(alloc, b"a", DbType::Card)?,
         field(alloc, b"b", DbType::Card)?,
     )?;
-    let mut keys = names(alloc, b"b")?;
-    keys.push(dbpl_base::name_of(alloc, b"a")?)?;
-    let kind = DbType::Rel(keys, Boxed::new(alloc, DbType::Rec(fields))?);
+    let keys = two(alloc, name_of(alloc, b"b")?, name_of(alloc, b"a")?)?;
+    Ok(DbType::Rel(keys, Boxed::new(alloc, DbType::Rec(fields))?))
+}
+
+#[test]
+fn components_in_declared_order(rt: HostRuntime) -> Result<(), Fail> {
+    let alloc = rt.alloc();
+    let kind = two_keys(alloc)?;
     let v = Value::Rec(numbers(alloc, &[2, 1])?);
-    for (b, a, order) in [
-        (0, 9, Ordering::Greater),
-        (2, 0, Ordering::Less),
-        (1, 3, Ordering::Less),
-        (1, 2, Ordering::Equal),
-    ] {
-        assert_eq!(rt;
-            key_order(&kind, &v, &Value::Rec(numbers(alloc, &[a, b])?)),
-            order
-        );
-        assert_eq!(rt;
-            order_to_key(&kind, &v, numbers(alloc, &[b, a])?.as_slice()),
-            order
-        );
-    }
+    assert!(rt; order_to_key(&kind, &v, numbers(alloc, &[0, 9])?.as_slice()).is_gt());
+    assert!(rt; order_to_key(&kind, &v, numbers(alloc, &[1, 3])?.as_slice()).is_lt());
+    assert!(rt; order_to_key(&kind, &v, numbers(alloc, &[1, 2])?.as_slice()).is_eq());
     Ok(())
 }

@@ -1,25 +1,22 @@
 //! Paths through relations, records and arrays.
 use super::{field, numbers, one, parts, parts_type, subs, two};
-use crate::{DbType, PathErr, Step, Value, at_path, copy, equal, put_path};
+use crate::{DbType, PathErr, Step, Value, at_path, equal, number_of, put_path};
 use dbpl_base::{Boxed, List, Memory};
 use std::alloc::Global;
 use std::test::Fail;
 
-/// To the positions of the record with this number.
-fn path_to_subs(alloc: Global, num: i64) -> Result<List<Step>, Memory> {
-    two(alloc, Step::Key(numbers(alloc, &[num])?), Step::Field(1))
+/// Puts other positions into the part with this number, in a relation of the part 1 alone.
+fn put_subs(alloc: Global, v: &mut Value, num: i64) -> Result<Result<(), PathErr>, Memory> {
+    let kind = parts_type(alloc)?;
+    let path = two(alloc, Step::Key(numbers(alloc, &[num])?), Step::Field(1))?;
+    Ok(put_path(&kind, v, path.as_slice(), subs(alloc, 2, 7)?))
 }
 
 #[test]
 fn puts_a_relation_into_a_record(rt: HostRuntime) -> Result<(), Fail> {
     let alloc = rt.alloc();
-    let kind = parts_type(alloc)?;
     let mut v = parts(alloc, 1, subs(alloc, 1, 5)?)?;
-    let path = path_to_subs(alloc, 1)?;
-    assert_eq!(rt;
-        put_path(&kind, &mut v, path.as_slice(), subs(alloc, 2, 7)?),
-        Ok(())
-    );
+    assert!(rt; put_subs(alloc, &mut v, 1)? == Ok(()));
     assert!(rt; equal(&v, &parts(alloc, 1, subs(alloc, 2, 7)?)?));
     Ok(())
 }
@@ -27,17 +24,13 @@ fn puts_a_relation_into_a_record(rt: HostRuntime) -> Result<(), Fail> {
 #[test]
 fn refuses_a_key_that_no_record_has(rt: HostRuntime) -> Result<(), Fail> {
     let alloc = rt.alloc();
-    let kind = parts_type(alloc)?;
     let mut v = parts(alloc, 1, subs(alloc, 1, 5)?)?;
-    let before = copy(alloc, &v)?;
-    let path = path_to_subs(alloc, 2)?;
-    let put = put_path(&kind, &mut v, path.as_slice(), subs(alloc, 2, 7)?);
-    assert_eq!(rt; put, Err(PathErr::NoElement(0)));
-    assert!(rt; equal(&v, &before));
+    assert!(rt; put_subs(alloc, &mut v, 2)? == Err(PathErr::NoElement(0)));
+    assert!(rt; equal(&v, &parts(alloc, 1, subs(alloc, 1, 5)?)?));
     Ok(())
 }
 
-/// RECORD rows: ARRAY [4 .. 6] OF (the type of parts) END
+/// RECORD rows: ARRAY [4 .. 6] OF (the relation of parts) END
 fn table_type(alloc: Global) -> Result<DbType, Memory> {
     let index = DbType::Sub(Boxed::new(alloc, DbType::Card)?, 4, 6);
     let rows = DbType::Arr(
@@ -51,8 +44,8 @@ fn table_type(alloc: Global) -> Result<DbType, Memory> {
 fn table(alloc: Global) -> Result<Value, Memory> {
     let mut rows = List::new(alloc);
     rows.push(parts(alloc, 1, subs(alloc, 10, 5)?)?)?;
-    rows.push(parts(alloc, 2, subs(alloc, 20, 5)?)?)?;
-    rows.push(parts(alloc, 3, subs(alloc, 30, 5)?)?)?;
+    rows.push(parts(alloc, 2, subs(alloc, 20, 6)?)?)?;
+    rows.push(parts(alloc, 3, subs(alloc, 30, 7)?)?)?;
     Ok(Value::Rec(one(alloc, Value::Arr(rows))?))
 }
 
@@ -66,26 +59,19 @@ fn path_to_quantity(alloc: Global, row: u32, num: i64, pos: i64) -> Result<List<
     Ok(path)
 }
 
+fn quantity(alloc: Global, row: u32, num: i64, pos: i64) -> Result<Result<i64, PathErr>, Memory> {
+    let path = path_to_quantity(alloc, row, num, pos)?;
+    let v = table(alloc)?;
+    Ok(at_path(&table_type(alloc)?, &v, path.as_slice()).map(|part| number_of(part)))
+}
+
 #[test]
 fn leads_through_fields_indices_and_keys(rt: HostRuntime) -> Result<(), Fail> {
     let alloc = rt.alloc();
-    let kind = table_type(alloc)?;
-    let mut v = table(alloc)?;
-    for (row, num, pos, found) in [
-        (0, 1, 10, Ok(5)),
-        (2, 3, 30, Ok(5)),
-        (3, 3, 30, Err(PathErr::Index(1))),
-        (1, 3, 20, Err(PathErr::NoElement(2))),
-        (1, 2, 30, Err(PathErr::NoElement(4))),
-    ] {
-        let path = path_to_quantity(alloc, row, num, pos)?;
-        let part = at_path(&kind, &v, path.as_slice());
-        assert_eq!(rt; part.map(|part| crate::number_of(part)), found);
-        let put = put_path(&kind, &mut v, path.as_slice(), Value::Num(9));
-        assert_eq!(rt; put.is_ok(), found.is_ok());
-        let put_back = put_path(&kind, &mut v, path.as_slice(), Value::Num(5));
-        assert_eq!(rt; put_back, put);
-    }
-    assert!(rt; equal(&v, &table(alloc)?));
+    assert!(rt; quantity(alloc, 0, 1, 10)? == Ok(5));
+    assert!(rt; quantity(alloc, 2, 3, 30)? == Ok(7));
+    assert!(rt; quantity(alloc, 3, 3, 30)? == Err(PathErr::Index(1)));
+    assert!(rt; quantity(alloc, 1, 3, 20)? == Err(PathErr::NoElement(2)));
+    assert!(rt; quantity(alloc, 1, 2, 30)? == Err(PathErr::NoElement(4)));
     Ok(())
 }
