@@ -1,7 +1,6 @@
 -- A value that is spelled is read: by induction on the type.
-use Rattle.std.proofs.Common.{◌≡◌, ℕ, ℤ, ◌<◌, ◌^◌, Bool, true, false, if◌then◌else◌, List, [], ◌∷◌, ◌++◌, map, length, Option, Some, None, ◌&&◌, refl, sym, ap, subst, ◌∙◌, arith, append_assoc}
+use Rattle.std.proofs.Common.{◌≡◌, ℕ, ℤ, ◌^◌, Bool, true, false, List, [], ◌∷◌, ◌++◌, map, length, Option, Some, None, ◌&&◌, refl, sym, ap, subst, ◌∙◌, arith, append_assoc}
 use Rattle.std.proofs.lemmas.Bool.{eqb-true, ltb-true}
-use Rattle.std.proofs.lemmas.Bool.Decides.{nat_tests}
 use Rattle.std.proofs.lemmas.Int.{ints}
 use Rattle.std.proofs.lemmas.List.{length-map}
 use Rattle.std.proofs.lemmas.List.Folds.{list_all-append}
@@ -11,12 +10,11 @@ use Rattle.std.specs.Int.{cast_signed, w32}
 use Rattle.std.specs.List.{AllByRecursion, flat_map, list_all, zip}
 use Rattle.std.specs.Option.{option_map_or}
 use Rattle.std.specs.Prelude.{◌-ℤ◌, int_le, nat_eq, nat_lt, negsuc, pos}
-use Rattle.byteorder.specs.Endian.{little_bytes}
 use Rattle.dbpl_value.proofs.Pairs.{flat_map-zip_map, list_all-zip_map}
 use Rattle.dbpl_value.proofs.TypeParts.{by_parts-out, type_induction}
 use Rattle.dbpl_value.proofs.ValuesLemmas.{is_of-out, tested}
 use Rattle.dbpl_value.specs.Keys.{keys_rise, number_level, number_of, parts_level, parts_of}
-use Rattle.dbpl_value.specs.Types.{count_of, inside, inside_level, is_host_level, is_in, is_sound, is_sound_level, is_type, keeps_rules, range_level, range_of}
+use Rattle.dbpl_value.specs.Types.{count_of, inside, inside_level, is_host_level, is_in, is_sound, is_sound_level, keeps_rules, range_level, range_of}
 use Rattle.dbpl_value.specs.Values.{is_array, is_number, is_of, is_of_level, is_record_of, is_relation_of}
 use Rattle.dbpl_value.specs.declared.db_type.DbType.{DbType, DbType-F, map-DbType, out-DbType, out-roll-DbType, roll-DbType}
 use Rattle.dbpl_value.specs.declared.db_type.DbType.TheOpen as kinds
@@ -31,7 +29,7 @@ use Rattle.dbpl_codec.proofs.ListLaws.{Completes, in_turn-completes, repeat-comp
 use Rattle.dbpl_codec.proofs.ReadingSteps.{array, compound, paired, readers, reads-out, records}
 use Rattle.dbpl_codec.proofs.ValueLaws.{bytes_of-out, fitting, numbered, spellings, value_fits-out}
 use Rattle.dbpl_codec.specs.Numbers.{byte_of, count_bytes, word_bytes, word_of}
-use Rattle.dbpl_codec.specs.Reading.{Reader, ◌>>=◌, byte_at, checked, in_turn, read_level, reads, repeat, risen, signed_at, small_at, unsigned_at, word_at}
+use Rattle.dbpl_codec.specs.Reading.{Reader, ◌>>=◌, checked, in_turn, read_level, reads, repeat, risen, small_at, word_at}
 use Rattle.dbpl_codec.specs.ValueSpelling.{bytes_level, bytes_of, fits_level, value_fits}
 
 -- ---- what a value of a sort is

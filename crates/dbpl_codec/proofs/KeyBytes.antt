@@ -1,5 +1,5 @@
 -- The type of a key field, found by its name.
-use Rattle.std.proofs.Common.{◌≡◌, ◌+◌, ◌<◌, ℕ, true, false, List, length, drop, get_or, refl, ap, sym, ◌∙◌, arith, add-one, drop-cons}
+use Rattle.std.proofs.Common.{◌≡◌, ◌+◌, ◌<◌, ℕ, true, false, List, length, drop, get_or, refl, add-one, drop-cons}
 use Rattle.dbpl_value.specs.Types.{is_same_name}
 use Rattle.dbpl_value.specs.declared.db_type.DbType.{DbType}
 use Rattle.dbpl_value.specs.declared.field.Field.{Field}

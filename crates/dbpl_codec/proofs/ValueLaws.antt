@@ -1,18 +1,17 @@
 -- A value that is spelled is read, and what is read was spelled so: by induction on the type.
 use Rattle.std.proofs.Common.{◌≡◌, ℕ, ℤ, ◌<◌, ◌^◌, Bool, true, false, if◌then◌else◌, List, [], ◌∷◌, ◌++◌, map, length, Option, Some, None, refl, sym, ap, subst, ◌∙◌, arith, append_assoc}
-use Rattle.std.proofs.lemmas.Bool.{eqb-true, ltb-true}
 use Rattle.std.proofs.lemmas.Bool.Decides.{nat_tests}
 use Rattle.std.proofs.lemmas.List.{length-map}
 use Rattle.std.specs.Cmp.{first_so, second_so}
 use Rattle.std.specs.Cmp.Derive.{both_true}
 use Rattle.std.specs.Int.{cast_signed, w32}
 use Rattle.std.specs.List.{AllByRecursion, flat_map, list_all, zip}
-use Rattle.std.specs.Prelude.{int_le, nat_eq, nat_lt, negsuc, pos}
+use Rattle.std.specs.Prelude.{int_le, nat_eq, nat_lt, pos}
 use Rattle.byteorder.specs.Endian.{little_bytes}
 use Rattle.dbpl_value.proofs.Pairs.{flat_map-zip_map, list_all-zip_map}
 use Rattle.dbpl_value.proofs.TypeParts.{by_answers-out, type_induction}
 use Rattle.dbpl_value.proofs.ValuesLemmas.{is_of-out, tested}
-use Rattle.dbpl_value.specs.Keys.{keys_rise, number_level, number_of, parts_of}
+use Rattle.dbpl_value.specs.Keys.{keys_rise, number_level, number_of}
 use Rattle.dbpl_value.specs.Types.{count_of, range_level}
 use Rattle.dbpl_value.specs.Values.{is_number, is_of, is_of_level}
 use Rattle.dbpl_value.specs.declared.db_type.DbType.{DbType, DbType-F, map-DbType, out-DbType, out-roll-DbType, roll-DbType}
@@ -21,13 +20,12 @@ use Rattle.dbpl_value.specs.declared.db_type.DbType.TheVariants as types
 use Rattle.dbpl_value.specs.declared.field.Field.{Field}
 use Rattle.dbpl_value.specs.declared.range.Range.{Range}
 use Rattle.dbpl_value.specs.declared.value.Value.{Value, Value-F, out-Value}
-use Rattle.dbpl_value.specs.declared.value.Value.TheOpen as values
 use Rattle.dbpl_value.specs.declared.value.Value.TheVariants as value
-use Rattle.dbpl_codec.proofs.ByteLaws.{IsBytes, IsBytes-rest, IsWord, below-word, byte_of-pos, some_is, word_at-takes, word_of-pos, word_of-signed}
+use Rattle.dbpl_codec.proofs.ByteLaws.{IsBytes, IsBytes-rest, below-word, byte_of-pos, some_is, word_at-takes, word_of-pos, word_of-signed}
 use Rattle.dbpl_codec.proofs.ListLaws.{Sound, Spelled, bind_some, in_turn-sound, repeat-sound}
 use Rattle.dbpl_codec.proofs.ReadingSteps.{array, compound, paired, readers, reads-out, records}
-use Rattle.dbpl_codec.specs.Numbers.{byte_of, count_bytes, count_fits, word_bytes, word_of}
-use Rattle.dbpl_codec.specs.Reading.{Reader, ◌>>=◌, byte_at, checked, in_turn, plain_level, read_level, reads, repeat, risen, signed_at, small_at, unsigned_at, word_at}
+use Rattle.dbpl_codec.specs.Numbers.{byte_of, count_bytes, word_bytes, word_of}
+use Rattle.dbpl_codec.specs.Reading.{Reader, ◌>>=◌, checked, in_turn, read_level, reads, repeat, risen, signed_at, small_at, unsigned_at, word_at}
 use Rattle.dbpl_codec.specs.ValueSpelling.{bytes_level, bytes_of, fits_level, value_fits}
 
 -- the spellings and the tests that the types in one level of a type make

@@ -1,5 +1,5 @@
 -- A value, from all of the bytes.
-use Rattle.std.proofs.Common.{◌≡◌, ℕ, Bool, true, false, if◌then◌else◌, List, [], ◌∷◌, ◌++◌, Option, Some, None, Result, Ok, Err, refl, sym, ap, subst, ◌∙◌}
+use Rattle.std.proofs.Common.{◌≡◌, ℕ, true, if◌then◌else◌, List, [], ◌∷◌, ◌++◌, Option, Some, None, Result, Ok, Err, refl, sym, ap, subst, ◌∙◌}
 use Rattle.std.proofs.lemmas.List.{append-nil}
 use Rattle.std.specs.Cmp.{first_so}
 use Rattle.std.specs.Prelude.{IfOk}
@@ -9,7 +9,6 @@ use Rattle.dbpl_value.specs.declared.db_type.DbType.{DbType}
 use Rattle.dbpl_value.specs.declared.value.Value.{Value}
 use Rattle.dbpl_codec.proofs.ByteLaws.{IsBytes, some_is}
 use Rattle.dbpl_codec.proofs.CompleteLaws.{reads-complete}
-use Rattle.dbpl_codec.proofs.ListLaws.{Spelled}
 use Rattle.dbpl_codec.proofs.ValueLaws.{reads-sound}
 use Rattle.dbpl_codec.specs.declared.read_err.ReadErr.{ReadErr}
 use Rattle.dbpl_codec.specs.Reading.{Gives, reads, whole}
@@ -46,3 +45,17 @@ value_only t bytes result given type v typed fits e =
     ap (λ (bs : List ℕ). reads t bs) (e ∙ sym (append-nil (bytes_of t v))) ∙ reads-complete t sound v [] typed fits
     in
     subst (λ (r : Option Value). Gives (λ w. w) result r) (ap (λ (r : Option (Value × List ℕ)). whole r) read) given
+
+-- no spelling begins another
+pub one_value :
+    (t : DbType) (v w : Value) (rest other : List ℕ) → is_type t ≡ true → is_of t v ≡ true → value_fits t v ≡ true →
+    is_of t w ≡ true → value_fits t w ≡ true → bytes_of t v ++ rest ≡ bytes_of t w ++ other → (v ≡ w) × (rest ≡ other)
+one_value t v w rest other type tv fv tw fw e =
+    let sound : is_sound t ≡ true = first_so (is_sound t) _ (first_so _ _ type) in
+    let x : Value × List ℕ = (v, rest) in
+    let y : Value × List ℕ = (w, other) in
+    let both : Some x ≡ Some y =
+    sym (reads-complete t sound v rest tv fv) ∙ ap (λ (bs : List ℕ). reads t bs) e ∙ reads-complete t sound w other tw fw
+    in
+    let same = some_is x y both in
+    (ap (λ (z : Value × List ℕ). z.0) same, ap (λ (z : Value × List ℕ). z.1) same)

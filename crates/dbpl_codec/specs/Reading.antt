@@ -1,6 +1,6 @@
 -- Values read from bytes, from left to right: the value and the bytes after it, or nothing where the bytes are no
 -- spelling. `found` in a list's reader is what stands before.
-use Rattle.std.specs.Prelude.{ℕ, zero, suc, ℤ, pos, Bool, nat_lt, if◌then◌else◌, List, [], ◌∷◌, ◌++◌, map, length, drop, Option, Some, None, Result, Ok, Err, ◌≡◌, ◌≢◌}
+use Rattle.std.specs.Prelude.{ℕ, zero, suc, pos, nat_lt, if◌then◌else◌, List, [], ◌∷◌, ◌++◌, map, length, drop, Option, Some, None, Result, Ok, Err, ◌≡◌, ◌≢◌}
 use Rattle.std.specs.Int.{cast_signed, w32}
 use Rattle.byteorder.specs.Endian.{little_number}
 use Rattle.dbpl_value.specs.Keys.{keys_rise}

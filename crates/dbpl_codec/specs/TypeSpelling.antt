@@ -1,7 +1,7 @@
 -- The one spelling of the descriptor of a type.
 use Rattle.std.specs.Prelude.{ℕ, Bool, true, ◌&&◌, int_le, pos, negsuc, ℤ, List, [], ◌∷◌, ◌++◌}
 use Rattle.std.specs.List.{flat_map, list_all}
-use Rattle.dbpl_value.specs.Types.{by_parts, is_in}
+use Rattle.dbpl_value.specs.Types.{by_parts}
 use Rattle.dbpl_value.specs.declared.db_type.DbType.{DbType, DbType-F}
 use Rattle.dbpl_value.specs.declared.db_type.DbType.TheOpen as kinds
 use Rattle.dbpl_value.specs.declared.field.Field.{Field}

@@ -3,13 +3,17 @@
 
 mod fronts;
 mod keys;
+mod laws;
 mod numbers;
 mod read_err;
 mod reads;
+#[cfg(test)]
+mod tests;
 mod types;
 mod values;
 
 pub use keys::key_bytes;
+pub use laws::one_value;
 pub use read_err::ReadErr;
 pub use reads::read_value;
 pub use types::write_type;

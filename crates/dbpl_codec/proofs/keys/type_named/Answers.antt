@@ -1,4 +1,4 @@
-use Rattle.std.proofs.Common.{◌≡◌, false, true, sym, ◌∙◌}
+use Rattle.std.proofs.Common.{◌≡◌, true, sym, ◌∙◌}
 use Rattle.dbpl_value.specs.Types.{is_same_name}
 use Rattle.dbpl_codec.proofs.KeyBytes.{type_named-here}
 use Rattle.dbpl_codec.proofs.keys.type_named.Goals as goal

@@ -1,10 +1,10 @@
-use Rattle.std.proofs.Common.{◌≡◌, [], map, ℕ, List, ◌∷◌, ◌++◌, Option, sym, ap, ◌∙◌}
+use Rattle.std.proofs.Common.{[], map, ℕ, List, sym, ap, ◌∙◌}
 use Rattle.std.proofs.lemmas.Result.{err_from_is_err_and}
 use Rattle.dbpl_value.specs.Types.{range_of}
 use Rattle.dbpl_value.specs.declared.db_type.DbType.{DbType}
 use Rattle.dbpl_value.specs.declared.db_type.DbType.TheVariants as types
 use Rattle.dbpl_value.specs.declared.value.Value.{Value}
-use Rattle.dbpl_codec.specs.Reading.{◌>>=◌, checked, in_turn, number_at, reads, repeat, risen, word_at}
+use Rattle.dbpl_codec.specs.Reading.{checked, in_turn, number_at, reads, repeat, risen, word_at}
 use Rattle.dbpl_codec.proofs.ReadingSteps.{array, compound, fails, gives-same, in_turn-done, in_turn-step, passes, reads-Arr, reads-Rec, reads-Rel, reads-Sub, reads-other, records, repeat-done, repeat-step}
 use Rattle.dbpl_codec.proofs.reads.+reading.Goals as goal
 

@@ -1,6 +1,5 @@
-use Rattle.std.proofs.Common.{◌≡◌, ◌<◌, ◌≤◌, ◌-◌, ℕ, true, false, length, sym, ap, ◌∙◌, arith, rules}
+use Rattle.std.proofs.Common.{◌≡◌, true, false, sym, ap, ◌∙◌, arith, rules}
 use Rattle.std.specs.Ordering.{is_lt}
-use Rattle.dbpl_value.specs.Keys.{key_cmp, key_of}
 use Rattle.dbpl_codec.proofs.Rising.{keys_rise-from, rises-more, rises-not}
 use Rattle.dbpl_codec.proofs.reads.rise.Goals as goal
 

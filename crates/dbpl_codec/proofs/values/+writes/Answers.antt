@@ -1,5 +1,5 @@
-use Rattle.std.proofs.Common.{◌≡◌, ◌<◌, ◌≤◌, min, ◌++◌, OnOk, ℕ, List, length, subst, ap, sym, ◌∙◌, arith, append_assoc}
-use Rattle.std.specs.List.{flat_map, zip}
+use Rattle.std.proofs.Common.{◌≡◌, ◌<◌, ◌≤◌, min, ◌++◌, OnOk, ℕ, List, length, subst, arith}
+use Rattle.std.specs.List.{flat_map}
 use Rattle.dbpl_value.proofs.Pairs.{take-zip-all}
 use Rattle.dbpl_codec.proofs.TypeBytes.{one_piece}
 use Rattle.dbpl_codec.specs.Numbers.{count_bytes}
