@@ -1,5 +1,5 @@
 //! Numbers, counts and names are appended to the bytes by these functions alone.
-ghost use Rattle.std.specs.Prelude.{◌≡◌, ◌++◌, ◌∷◌, [], ◌<◌, ◌^◌, ◌+◌, ◌%◌, OnOk, OnErr, length};
+ghost use Rattle.std.specs.Prelude.{◌≡◌, ◌++◌, ◌∷◌, [], ◌<◌, ◌^◌, ◌+◌, ◌%◌, IsTrue, OnOk, int_le, length, pos};
 ghost use Rattle.byteorder.specs.Endian.{big_bytes};
 ghost use Rattle.dbpl_codec.specs.Numbers.{byte_of, count_bytes, long_bytes, name_bytes, names_bytes, word_bytes, word_of};
 
@@ -42,6 +42,17 @@ pub(crate) fn append_word(n: i64, out: &mut Vec<u8>) -> Result<(), Memory>
     LittleEndian::write_u32(&mut bytes, low_word(n));
     out.extend_from_slice(&bytes)?;
     Ok(())
+}
+
+/// The constant of an enumeration. One that four bytes can't hold is taken for want of memory.
+pub(crate) fn append_constant(n: i64, out: &mut Vec<u8>) -> Result<(), Memory>
+    ensures ok { OnOk result (out.new.items ≡ out.old.items ++ word_bytes n) }
+    ensures fits { OnOk result (IsTrue (int_le n (pos 4294967295))) }
+{
+    if n > i64::from(u32::MAX) {
+        return Err(Memory);
+    }
+    append_word(n, out)
 }
 
 pub(crate) fn append_long(n: i64, out: &mut Vec<u8>) -> Result<(), Memory>

@@ -1,9 +1,9 @@
 //! Values are written as their spelling says.
-ghost use Rattle.std.specs.Prelude.{◌≡◌, ◌++◌, OnOk};
-ghost use Rattle.std.specs.List.{flat_map, zip};
-ghost use Rattle.dbpl_codec.specs.ValueSpelling.{bytes_of};
+ghost use Rattle.std.specs.Prelude.{◌≡◌, ◌++◌, IsTrue, OnOk};
+ghost use Rattle.std.specs.List.{flat_map, list_all, zip};
+ghost use Rattle.dbpl_codec.specs.ValueSpelling.{bytes_of, value_fits};
 
-use crate::numbers::{append_byte, append_count, append_word};
+use crate::numbers::{append_byte, append_constant, append_count, append_word};
 use dbpl_base::Memory;
 use dbpl_value::{DbType, Field, Value, number_of, parts_of};
 
@@ -11,9 +11,11 @@ use dbpl_value::{DbType, Field, Value, number_of, parts_of};
 #[cycle(writes)]
 pub fn write_value(t: &DbType, v: &Value, out: &mut Vec<u8>) -> Result<(), Memory>
     ensures ok { OnOk result (out.new.items ≡ out.old.items ++ bytes_of t.now v.now) }
+    ensures fits { OnOk result (IsTrue (value_fits t.now v.now)) }
 {
     match t {
-        DbType::Int | DbType::Card | DbType::Enum(_) => append_word(number_of(v), out),
+        DbType::Int | DbType::Card => append_word(number_of(v), out),
+        DbType::Enum(_) => append_constant(number_of(v), out),
         DbType::Bool | DbType::Char => append_byte(number_of(v), out),
         DbType::Sub(host, _, _) => write_value(host.get(), v, out),
         DbType::Arr(_, element) => write_all(element.get(), parts_of(v), out),
@@ -28,6 +30,7 @@ pub fn write_value(t: &DbType, v: &Value, out: &mut Vec<u8>) -> Result<(), Memor
 #[cycle(writes)]
 fn write_all(t: &DbType, parts: &[Value], out: &mut Vec<u8>) -> Result<(), Memory>
     ensures ok { OnOk result (out.new.items ≡ out.old.items ++ flat_map (bytes_of t.now) parts.now) }
+    ensures fits { OnOk result (IsTrue (list_all (value_fits t.now) parts.now)) }
 {
     for part in parts {
         write_value(t, part, out)?;
@@ -39,6 +42,8 @@ fn write_all(t: &DbType, parts: &[Value], out: &mut Vec<u8>) -> Result<(), Memor
 fn write_fields(fields: &[Field], parts: &[Value], out: &mut Vec<u8>) -> Result<(), Memory>
     ensures ok { OnOk result (out.new.items
         ≡ out.old.items ++ flat_map (λ pair. bytes_of pair.0.kind pair.1) (zip fields.now parts.now)) }
+    ensures fits { OnOk result
+        (IsTrue (list_all (λ pair. value_fits pair.0.kind pair.1) (zip fields.now parts.now))) }
 {
     for i in 0..fields.len().min(parts.len()) {
         write_value(&fields[i].kind, &parts[i], out)?;
