@@ -1,0 +1,10 @@
+pub mod KeyBytes
+pub mod TypeBytes
+pub mod ValueBytes
+pub mod Rising
+pub mod ReadingSteps
+pub mod ByteLaws
+pub mod ListLaws
+pub mod ValueLaws
+pub mod CompleteLaws
+pub mod WholeLaws

@@ -1,0 +1,5 @@
+pub mod KeySpelling
+pub mod Numbers
+pub mod Reading
+pub mod TypeSpelling
+pub mod ValueSpelling

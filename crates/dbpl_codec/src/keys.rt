@@ -1,0 +1,56 @@
+//! Keys are written so that their bytes compare as they do.
+ghost use Rattle.std.specs.Prelude.{◌≡◌, ◌++◌, OnOk};
+ghost use Rattle.std.specs.List.{flat_map};
+ghost use Rattle.dbpl_codec.specs.KeySpelling.{component_bytes, key_bytes_of, type_named as type_of_name};
+
+use crate::numbers::{append_byte, append_key_word, low_word};
+use dbpl_base::{Memory, Name};
+use dbpl_value::{DbType, Field, Value, element_of, fields_of, keys_of, number_of, parts_of};
+
+/// Appends the key bytes of a key in a relation of type `t`, or of its first components.
+pub fn key_bytes(t: &DbType, key: &[Value], out: &mut Vec<u8>) -> Result<(), Memory>
+    ensures ok { OnOk result (out.new.items ≡ out.old.items ++ key_bytes_of t.now key.now) }
+{
+    let keys = keys_of(t);
+    let fields = fields_of(element_of(t));
+    for i in 0..keys.len().min(key.len()) {
+        component(type_named(t, fields, &keys[i]), &key[i], out)?;
+    }
+    Ok(())
+}
+
+/// The type of the field of this name, and `t` where there is none.
+fn type_named<'a>(t: &'a DbType, fields: &'a [Field], name: &Name) -> &'a DbType
+    ensures { result.now ≡ type_of_name t.now fields.now name.now }
+{
+    for field in fields {
+        if field.name == *name {
+            return &field.kind;
+        }
+    }
+    t
+}
+
+#[cycle(components)]
+fn component(t: &DbType, v: &Value, out: &mut Vec<u8>) -> Result<(), Memory>
+    ensures ok { OnOk result (out.new.items ≡ out.old.items ++ component_bytes t.now v.now) }
+{
+    match t {
+        DbType::Int => append_key_word(low_word(number_of(v)).wrapping_add(1 << 31), out),
+        DbType::Card | DbType::Enum(_) => append_key_word(low_word(number_of(v)), out),
+        DbType::Bool | DbType::Char => append_byte(number_of(v), out),
+        DbType::Sub(host, _, _) => component(host.get(), v, out),
+        DbType::Arr(_, element) => characters(element.get(), parts_of(v), out),
+        DbType::Rec(_) | DbType::Rel(_, _) => Ok(()),
+    }
+}
+
+#[cycle(components)]
+fn characters(t: &DbType, parts: &[Value], out: &mut Vec<u8>) -> Result<(), Memory>
+    ensures ok { OnOk result (out.new.items ≡ out.old.items ++ flat_map (component_bytes t.now) parts.now) }
+{
+    for part in parts {
+        component(t, part, out)?;
+    }
+    Ok(())
+}

@@ -1,0 +1,14 @@
+//! Laws of the spellings, as contracts of functions that do nothing.
+ghost use Rattle.std.specs.Prelude.{◌≡◌, ◌++◌, IsTrue, List, ℕ};
+ghost use Rattle.dbpl_codec.specs.ValueSpelling.{bytes_of, value_fits};
+ghost use Rattle.dbpl_value.specs.Types.{is_type};
+ghost use Rattle.dbpl_value.specs.Values.{is_of};
+ghost use Rattle.dbpl_value.specs.declared.db_type.DbType.{DbType};
+ghost use Rattle.dbpl_value.specs.declared.value.Value.{Value};
+
+/// No spelling of a value begins another of the same type, and two values with one spelling are equal.
+pub fn one_value()
+    ensures { (t : DbType) (v w : Value) (rest other : List ℕ) → IsTrue (is_type t) → IsTrue (is_of t v) →
+        IsTrue (value_fits t v) → IsTrue (is_of t w) → IsTrue (value_fits t w) →
+        bytes_of t v ++ rest ≡ bytes_of t w ++ other → (v ≡ w) × (rest ≡ other) }
+{}
