@@ -94,6 +94,7 @@ static TOKENS: [(&[u8], usize, u32, Shown); 44] = [
 #[test]
 fn gives_tokens(rt: HostRuntime) -> Result<(), Fail> {
     for (text, at, col, shown) in TOKENS {
+        assert!(rt; text.len() < 100);
         let tokens = scan(rt.alloc(), 3, text)?;
         let place = Place {
             unit: 3,
@@ -156,6 +157,7 @@ static BROKEN: [(&[u8], u32, u32); 15] = [
 #[test]
 fn breaks_off(rt: HostRuntime) {
     for (text, line, col) in BROKEN {
+        assert!(rt; text.len() < 100);
         let place = Place { unit: 0, line, col };
         let answer = scan(rt.alloc(), 0, text).map(|tokens| tokens.len());
         assert_eq!(rt; answer, Err(ScanErr::Bad(place)), "{text:?}");
