@@ -64,3 +64,17 @@ one-is_of t element h g = is_of-Rel t (element ∷ []) h ∙ rw g refl
 
 pub none-is_of : (t : DbType) → is_relation_type t ≡ true → is_of t (value.Rel []) ≡ true
 none-is_of t h = is_of-Rel t [] h
+
+pub one_sub-is_of :
+    (position quantity : ℕ) → position < 4294967296 → quantity < 4294967296 →
+    is_of subs (value.Rel (sub_of position quantity ∷ [])) ≡ true
+one_sub-is_of position quantity h g =
+    one-is_of subs (sub_of position quantity) subs-kind
+    (ap (λ t. is_of t (sub_of position quantity)) subs-element ∙ sub_of-is_of position quantity h g)
+
+pub one_part-is_of :
+    (number : ℕ) (held : Value) → number < 4294967296 → is_of subs held ≡ true →
+    is_of parts (value.Rel (part_of number held ∷ [])) ≡ true
+one_part-is_of number held h g =
+    one-is_of parts (part_of number held) parts-kind
+    (ap (λ t. is_of t (part_of number held)) parts-element ∙ part_of-is_of number held h g)

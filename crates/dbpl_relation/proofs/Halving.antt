@@ -1,6 +1,7 @@
 -- How often a number can be halved: the bound on the steps of a binary search.
-use Rattle.std.proofs.Common.{◌≡◌, ◌+◌, ◌-◌, ◌*◌, ◌/◌, ◌^◌, ◌<◌, ◌≤◌, ℕ, suc, refl, ap, sym, ◌∙◌, add-one, arith}
-use Rattle.std.proofs.Math.Nat.{mul-le-mul_right, pow-suc}
+use Rattle.std.proofs.Common.{◌≡◌, ◌+◌, ◌-◌, ◌*◌, ◌/◌, ◌^◌, ◌<◌, ◌≤◌, ℕ, suc, ◌⊎◌, inl, inr, refl, ap, sym, ◌∙◌, add-one, arith}
+use Rattle.std.proofs.lemmas.Bool.{cases_lt}
+use Rattle.std.proofs.Math.Nat.{mul-le-mul_right, pow-le-pow_right, pow-suc}
 
 -- one step more doubles the power
 pub twice : (start steps : ℕ) → start ≤ steps → 2 ^ (steps + 1 - start) ≡ 2 * 2 ^ (steps - start)
@@ -26,3 +27,13 @@ upper_half low high h = omega arith
 
 pub lower_half : (low high : ℕ) → low < high → 2 * (low + (high - low) / 2 - low) ≤ high - low
 lower_half low high h = omega arith
+
+-- among 131,072 records a search takes 18 steps at most
+pub at_most_18 : (count steps : ℕ) → count ≤ 131072 → 2 ^ steps ≤ 2 * count + 1 → steps ≤ 18
+at_most_18 count steps h le = by_steps (cases_lt 18 steps)
+  where
+    by_steps : (18 < steps) ⊎ (steps ≤ 18) → steps ≤ 18
+    by_steps (inl more) =
+        let great : 2 ^ 19 ≤ 2 ^ steps = pow-le-pow_right (omega arith) more in
+        absurd (omega (arith, great))
+    by_steps (inr few) = few

@@ -64,7 +64,12 @@ fn subs_of(alloc: Global, t: &DbType, records: &[(u32, u32)]) -> Result<Value, C
 {
     let mut relation = Value::Rel(List::new(alloc));
     for (position, quantity) in records {
-        insert(alloc, t, &mut relation, &one_sub(alloc, *position, *quantity)?)?;
+        insert(
+            alloc,
+            t,
+            &mut relation,
+            &one_sub(alloc, *position, *quantity)?,
+        )?;
     }
     Ok(relation)
 }

@@ -43,17 +43,36 @@ fn plain_statements(rt: HostRuntime) -> Result<(), Fail> {
         (Op::Set, &[], Ok(&[])),
         (Op::Set, &[(1, 6), (2, 20)], Ok(&[(1, 6), (2, 20)])),
         (Op::Add, &[(3, 9)], Ok(&[(1, 5), (2, 20), (3, 9), (4, 7)])),
-        (Op::Add, &[(1, 5), (5, 1)], Ok(&[(1, 5), (2, 20), (4, 7), (5, 1)])),
-        (Op::Add, &[(0, 0), (2, 21), (4, 8)], Err(ChangeErr::Clash(1))),
+        (
+            Op::Add,
+            &[(1, 5), (5, 1)],
+            Ok(&[(1, 5), (2, 20), (4, 7), (5, 1)]),
+        ),
+        (
+            Op::Add,
+            &[(0, 0), (2, 21), (4, 8)],
+            Err(ChangeErr::Clash(1)),
+        ),
         (Op::Add, &[], Ok(&[(1, 5), (2, 20), (4, 7)])),
-        (Op::Remove, &[(1, 5), (2, 21), (9, 9)], Ok(&[(2, 20), (4, 7)])),
+        (
+            Op::Remove,
+            &[(1, 5), (2, 21), (9, 9)],
+            Ok(&[(2, 20), (4, 7)]),
+        ),
         (Op::Remove, &[(1, 5), (2, 20), (4, 7)], Ok(&[])),
         (Op::Remove, &[(0, 5), (4, 7)], Ok(&[(1, 5), (2, 20)])),
-        (Op::Replace, &[(2, 6), (3, 30)], Ok(&[(1, 5), (2, 6), (4, 7)])),
+        (
+            Op::Replace,
+            &[(2, 6), (3, 30)],
+            Ok(&[(1, 5), (2, 6), (4, 7)]),
+        ),
         (Op::Replace, &[(9, 9)], Ok(&[(1, 5), (2, 20), (4, 7)])),
     ];
     for (number, (op, right, wanted)) in cases.iter().enumerate() {
-        assert!(rt; makes(alloc, &t, false, *op, before, right, *wanted)?, "case {number}");
+        assert!(rt;
+            makes(alloc, &t, false, *op, before, right, *wanted)?,
+            "case {number}"
+        );
     }
     Ok(())
 }
@@ -76,12 +95,23 @@ fn statements_through_a_selector(rt: HostRuntime) -> Result<(), Fail> {
         (Op::Add, &[(2, 20)], Err(ChangeErr::Outside(0))),
         (Op::Remove, &[(1, 5), (2, 9)], Ok(&[(2, 20), (4, 7)])),
         (Op::Remove, &[(1, 5), (2, 20)], Err(ChangeErr::Outside(1))),
-        (Op::Replace, &[(1, 6), (2, 7)], Ok(&[(1, 6), (2, 20), (4, 7)])),
-        (Op::Replace, &[(3, 3), (4, 4)], Ok(&[(1, 5), (2, 20), (4, 4)])),
+        (
+            Op::Replace,
+            &[(1, 6), (2, 7)],
+            Ok(&[(1, 6), (2, 20), (4, 7)]),
+        ),
+        (
+            Op::Replace,
+            &[(3, 3), (4, 4)],
+            Ok(&[(1, 5), (2, 20), (4, 4)]),
+        ),
         (Op::Replace, &[(1, 10)], Err(ChangeErr::Outside(0))),
     ];
     for (number, (op, right, wanted)) in cases.iter().enumerate() {
-        assert!(rt; makes(alloc, &t, true, *op, before, right, *wanted)?, "case {number}");
+        assert!(rt;
+            makes(alloc, &t, true, *op, before, right, *wanted)?,
+            "case {number}"
+        );
     }
     Ok(())
 }
@@ -97,7 +127,10 @@ fn two_positions_through_a_selector(rt: HostRuntime) -> Result<(), Fail> {
         (&[(3, 6)], Ok(&[(2, 20), (3, 6)])),
     ];
     for (number, (right, wanted)) in cases.iter().enumerate() {
-        assert!(rt; makes(alloc, &t, true, Op::Set, before, right, *wanted)?, "case {number}");
+        assert!(rt;
+            makes(alloc, &t, true, Op::Set, before, right, *wanted)?,
+            "case {number}"
+        );
     }
     Ok(())
 }
