@@ -24,3 +24,6 @@ pub use refusal::Refusal;
 pub use status::Status;
 pub use steps::Steps;
 pub use token::Token;
+
+#[cfg(test)]
+mod tests;

@@ -1,7 +1,7 @@
 ghost use Rattle.std.specs.Prelude.{◌≡◌};
 ghost use Rattle.dbpl_base.specs.Statuses.{code_of};
 
-use crate::{Name, Place};
+use crate::{Memory, Name, Place};
 
 /// How a command ended.
 #[derive(Debug, PartialEq, Eq, Drop)]
@@ -22,6 +22,16 @@ pub enum Status {
     Memory,
     /// The file passes the limit for its kind.
     TooLong(Name),
+}
+
+impl From<Memory> for Status {
+    ghost use Rattle.dbpl_base.specs.declared.status.Status.TheVariants as status;
+
+    ghost from_gives = { λ _ answer. answer ≡ status.Memory };
+
+    fn from(_: Memory) -> Status {
+        Status::Memory
+    }
 }
 
 impl Status {

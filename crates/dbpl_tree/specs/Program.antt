@@ -35,7 +35,7 @@ spell program =
     spell_heading program.name ++ spell_statements program.statements ++ word_end ∷ Ident program.name ∷ full_stop ∷
     Finish ∷ []
 
--- an identifier that is no reserved word and none of the imported names
+-- An identifier that is no reserved word and none of the imported names. That it is one follows from its spelling too.
 pub record IsModuleName (name : List ℕ) : Type 0 where
   pub identifier : IsIdentifier name
   pub unreserved : (row : ℕ) → IsRow reserved_words row name → ⊥

@@ -1,0 +1,6 @@
+pub mod Gives
+pub mod Modules
+pub mod Names
+pub mod Statements
+pub mod Steps
+pub mod Tokens

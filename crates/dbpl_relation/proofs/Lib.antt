@@ -1,0 +1,12 @@
+pub mod Changing
+pub mod EditLemmas
+pub mod EqualityLemmas
+pub mod Filters
+pub mod ExampleTypes
+pub mod FirstAt
+pub mod Halving
+pub mod KeyLemmas
+pub mod Lacking
+pub mod OfType
+pub mod Puts
+pub mod Searching

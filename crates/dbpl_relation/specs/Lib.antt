@@ -1,0 +1,4 @@
+pub mod Changes
+pub mod Equality
+pub mod Examples
+pub mod Relations

@@ -1,0 +1,15 @@
+pub mod CommentLaw
+pub mod Ends
+pub mod GapLaw
+pub mod NumberLaw
+pub mod NumberValue
+pub mod OneLexeme
+pub mod PlaceLaw
+pub mod Rows
+pub mod Runs
+pub mod SignLaw
+pub mod Spellings
+pub mod StringLaw
+pub mod TurnLaw
+pub mod WholeLaw
+pub mod WordLaw

@@ -1,0 +1,3 @@
+pub mod BreaksOff
+pub mod Comments
+pub mod Fronts

@@ -1,0 +1,5 @@
+use Rattle.dbpl_world.proofs.Standing.{tied_synced}
+use Rattle.dbpl_world.proofs.memory_world.calls.MemoryWorldWorld.sync.Goals as goal
+
+pub invariant_of-self-2-clause-tied : goal.invariant_of-self-2-clause-tied
+invariant_of-self-2-clause-tied c = tied_synced c.args.self.now.input.items c.args.self.now.stores.items c.args.self.now.put _ _ c.args.part c.args.self.now.tied c.keep.ensures.events

@@ -1,0 +1,13 @@
+pub mod Budget
+pub mod CallRecord
+pub mod Calls
+pub mod Counts
+pub mod Files
+pub mod History
+pub mod Images
+pub mod InShelf
+pub mod InMemory
+pub mod Moments
+pub mod Tied
+pub mod Unheard
+pub mod Writing

@@ -1,0 +1,100 @@
+// The calls in an order of use, with values from the description of the world.
+ghost use Rattle.std.specs.Prelude.{IsSome};
+
+use super::*;
+use std::fs;
+use std::test::Fail;
+
+#[test]
+fn input_and_output_in_memory(rt: HostRuntime) -> Result<(), Fail> {
+    let mut world = MemoryWorld::make(rt.alloc(), b"abc", &[2], 10_000).expect(&rt, "memory");
+    let mut room = [0; 2];
+    assert_eq!(rt; (world.take(&mut room), room), (Ok(2), [b'a', b'b']));
+    assert_eq!(rt; say_all(&mut world, b"yes"), Err(Failed));
+    assert_eq!(rt; note_all(&mut world, b"note"), Ok(()));
+    assert_eq!(rt;
+        (world.said(), world.noted()),
+        (b"y".as_slice(), b"note".as_slice())
+    );
+    assert_eq!(rt; world.calls(), 4);
+    Ok(())
+}
+
+#[test]
+fn room_in_memory(rt: HostRuntime) -> Result<(), Fail> {
+    let mut world = MemoryWorld::make(rt.alloc(), b"", &[], 64 + 3 + 64).expect(&rt, "memory");
+    let said = (world.say(b"yes"), world.say(b"!"), world.take(&mut []));
+    assert_eq!(rt; said, (Ok(3), Err(Failed), Err(Failed)));
+    Ok(())
+}
+
+// Writes behind a gap, syncs and reads back.
+fn round_trip<W: World>(world: &mut W) -> Result<(u64, usize, [u8; 6]), Failed>
+    requires { IsSome (W.mounted world.old) }
+{
+    write_and_sync(world, Part::Log, 2, b"xyz")?;
+    let size = world.size(Part::Log)?;
+    let mut read = [9; 6];
+    let count = world.read_at(Part::Log, 0, &mut read)?;
+    Ok((size, count, read))
+}
+
+#[test]
+fn store_in_memory(rt: HostRuntime) -> Result<(), Fail> {
+    let alloc = rt.alloc();
+    let mut world = MemoryWorld::make(alloc, b"", &[], 10_000).expect(&rt, "memory");
+    assert_eq!(rt; world.put_store(alloc, "s", b"1", b""), Ok(()));
+    assert!(rt; world.mount(alloc, "s").is_ok());
+    assert_eq!(rt;
+        round_trip(&mut world),
+        Ok((5, 5, [b'1', 0, b'x', b'y', b'z', 9]))
+    );
+    Ok(())
+}
+
+#[test]
+fn store_in_files(rt: HostRuntime) -> Result<(), Fail> {
+    let mut world = RealWorld::new(rt, rt.stdin(), rt.stdout(), rt.stderr());
+    assert!(rt; world.mount(rt.alloc(), "s").is_ok());
+    assert_eq!(rt;
+        round_trip(&mut world),
+        Ok((5, 5, [0, 0, b'x', b'y', b'z', 9]))
+    );
+    assert_eq!(rt; fs::read(&rt, "s.log")?.as_slice(), b"\0\0xyz".as_slice());
+    Ok(())
+}
+
+#[test]
+fn shelf_in_memory(rt: HostRuntime) -> Result<(), Fail> {
+    let alloc = rt.alloc();
+    let mut files = Vec::new(alloc);
+    files.push((b"a".to_vec(alloc)?, b"one".to_vec(alloc)?))?;
+    files.push((b"a".to_vec(alloc)?, b"two".to_vec(alloc)?))?;
+    let mut shelf = MemoryShelf::make(alloc, files.as_slice(), &[1]).expect(&rt, "memory");
+    let mut into = Vec::new(alloc);
+    assert_eq!(rt; shelf.fetch(alloc, "a", 3, &mut into), Ok(true));
+    assert_eq!(rt;
+        shelf.fetch(alloc, "a", 3, &mut into),
+        Err(ShelfErr::Failed)
+    );
+    assert_eq!(rt; into.as_slice(), b"one".as_slice());
+    Ok(())
+}
+
+#[test]
+fn shelf_of_files(rt: HostRuntime) -> Result<(), Fail> {
+    fs::write(&rt, "a.mod", "text")?;
+    fs::create_dir(&rt, "folder")?;
+    let mut shelf = FileShelf::new(rt);
+    let mut into = Vec::new(rt.alloc());
+    for (name, limit, want) in [
+        ("a.mod", 4, Ok(true)),
+        ("b.mod", 4, Ok(false)),
+        ("a.mod", 3, Err(ShelfErr::TooLong)),
+        ("folder", 4, Err(ShelfErr::Failed)),
+    ] {
+        assert_eq!(rt; shelf.fetch(rt.alloc(), name, limit, &mut into), want);
+    }
+    assert_eq!(rt; into.as_slice(), b"text".as_slice());
+    Ok(())
+}
