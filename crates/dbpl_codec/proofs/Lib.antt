@@ -8,3 +8,4 @@ pub mod ListLaws
 pub mod ValueLaws
 pub mod CompleteLaws
 pub mod WholeLaws
+pub mod SizeLaw

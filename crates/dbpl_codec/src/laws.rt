@@ -1,6 +1,7 @@
 //! Laws of the spellings, as contracts of functions that do nothing.
-ghost use Rattle.std.specs.Prelude.{◌≡◌, ◌++◌, IsTrue, List, ℕ};
+ghost use Rattle.std.specs.Prelude.{◌≡◌, ◌++◌, IsTrue, List, length, ℕ};
 ghost use Rattle.dbpl_codec.specs.ValueSpelling.{bytes_of, value_fits};
+ghost use Rattle.dbpl_value.specs.Sizes.{size_of};
 ghost use Rattle.dbpl_value.specs.Types.{is_type};
 ghost use Rattle.dbpl_value.specs.Values.{is_of};
 ghost use Rattle.dbpl_value.specs.declared.db_type.DbType.{DbType};
@@ -11,4 +12,9 @@ pub fn one_value()
     ensures { (t : DbType) (v w : Value) (rest other : List ℕ) → IsTrue (is_type t) → IsTrue (is_of t v) →
         IsTrue (value_fits t v) → IsTrue (is_of t w) → IsTrue (value_fits t w) →
         bytes_of t v ++ rest ≡ bytes_of t w ++ other → (v ≡ w) × (rest ≡ other) }
+{}
+
+/// The coded size of a value is the length of its spelling.
+pub fn coded_size()
+    ensures { (t : DbType) (v : Value) → size_of t v ≡ length (bytes_of t v) }
 {}

@@ -13,7 +13,7 @@ mod types;
 mod values;
 
 pub use keys::key_bytes;
-pub use laws::one_value;
+pub use laws::{coded_size, one_value};
 pub use read_err::ReadErr;
 pub use reads::read_value;
 pub use types::write_type;
