@@ -1,9 +1,9 @@
 -- When each answer of a statement comes.
-use Rattle.std.proofs.Common.{◌≡◌, ◌+◌, ◌<◌, ◌≤◌, ℕ, zero, suc, Bool, true, false, not, ◌&&◌, ◌||◌, cond, ltb, List, [], ◌∷◌, length, get_or, Option, Some, None, Result, Ok, Err, refl, sym, ap, ◌∙◌, arith}
-use Rattle.std.proofs.lemmas.Bool.{ltb-false, true≢false}
+use Rattle.std.proofs.Common.{◌≡◌, ◌<◌, ℕ, suc, Bool, true, false, not, ◌&&◌, ◌||◌, cond, ltb, List, [], ◌∷◌, length, get_or, Option, Some, None, Ok, Err, refl, sym, ap, ◌∙◌, arith}
+use Rattle.std.proofs.lemmas.Bool.{ltb-false}
 use Rattle.std.proofs.lemmas.List.Sums.{fails_before_first}
 use Rattle.std.specs.Cmp.{first_so, second_so}
-use Rattle.std.specs.List.{filter, list_all, list_any, position, position_or_len}
+use Rattle.std.specs.List.{list_all, position, position_or_len}
 use Rattle.std.specs.Prelude.{pos}
 use Rattle.dbpl_value.specs.declared.db_type.DbType.{DbType}
 use Rattle.dbpl_value.specs.declared.value.Value.{Value}
@@ -14,7 +14,6 @@ use Rattle.dbpl_relation.proofs.Puts.{both_so}
 use Rattle.dbpl_relation.specs.Changes.{after, changed, changed_inside, clashes, everywhere, removed, unless}
 use Rattle.dbpl_relation.specs.Equality.{is_same}
 use Rattle.dbpl_relation.specs.Relations.{is_among}
-use Rattle.dbpl_relation.specs.declared.change_err.ChangeErr.{ChangeErr}
 use Rattle.dbpl_relation.specs.declared.change_err.ChangeErr.TheVariants as change_err
 use Rattle.dbpl_relation.specs.declared.op.Op.{Op}
 

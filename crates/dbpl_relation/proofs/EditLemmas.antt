@@ -1,8 +1,7 @@
 -- What taking a record away and giving way to one make of the records.
-use Rattle.std.proofs.Common.{◌≡◌, ◌+◌, ◌<◌, ◌≤◌, ℕ, zero, suc, Bool, true, false, cond, not, ◌&&◌, ◌||◌, List, [], ◌∷◌, ◌++◌, length, map, get_or, set, Option, Some, None, refl, ap, sym, ◌∙◌, arith}
-use Rattle.std.proofs.lemmas.List.Folds.{list_any-append}
+use Rattle.std.proofs.Common.{◌≡◌, ◌<◌, ℕ, zero, suc, Bool, true, false, cond, not, List, [], ◌∷◌, length, map, get_or, set, Option, Some, None, refl, ap, sym, ◌∙◌, arith}
 use Rattle.std.specs.Cmp.{both_ways, first_so, second_so, tied_itself}
-use Rattle.std.specs.List.{HoldsAt, filter, find, list_all, list_any, remove}
+use Rattle.std.specs.List.{HoldsAt, list_all, remove}
 use Rattle.std.specs.Option.{unwrap_or}
 use Rattle.std.specs.Ordering.{is_eq, ordering_reverse}
 use Rattle.std.specs.Prelude.{◌↔◌, IsTrue, if◌then◌else◌}
@@ -13,13 +12,12 @@ use Rattle.dbpl_value.specs.Keys.{has_key, key_cmp, key_of, keys_rise}
 use Rattle.dbpl_value.specs.declared.db_type.DbType.{DbType}
 use Rattle.dbpl_value.specs.declared.value.Value.{Value}
 use Rattle.dbpl_relation.proofs.EqualityLemmas.{is_same-equal, is_same-own}
-use Rattle.dbpl_relation.proofs.KeyLemmas.{is_eq-Equal, key_cmp-exact}
 use Rattle.dbpl_relation.proofs.Lacking.{first_lacks, lacks, rest_lacks}
 use Rattle.dbpl_relation.proofs.Puts.{both_so, list_all-mono, put-found, put-rises}
 use Rattle.dbpl_relation.proofs.Searching.{get_or-same}
 use Rattle.dbpl_relation.specs.Changes.{everywhere, removed, replaced, replacement}
 use Rattle.dbpl_relation.specs.Equality.{is_same}
-use Rattle.dbpl_relation.specs.Relations.{is_among, is_before, record_with}
+use Rattle.dbpl_relation.specs.Relations.{is_before, record_with}
 
 -- a computed equality answers as the test does
 pub equal-is_same : (v w : Value) (answer : Bool) → (IsTrue answer ↔ (v ≡ w)) → answer ≡ is_same v w

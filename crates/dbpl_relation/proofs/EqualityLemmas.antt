@@ -1,11 +1,11 @@
 -- The test of equality answers true exactly for equal values.
-use Rattle.std.proofs.Common.{◌≡◌, Bool, true, false, ◌&&◌, List, [], ◌∷◌, map, refl, ap, sym, subst, ◌∙◌, arith}
+use Rattle.std.proofs.Common.{◌≡◌, Bool, true, List, [], ◌∷◌, map, refl, ap, sym, subst, ◌∙◌}
 use Rattle.std.proofs.lemmas.Map.Lookups.{exact_signed}
 use Rattle.std.specs.Prelude.{ℤ}
 use Rattle.std.specs.Cmp.{Equal-is, first_so, int_cmp_total, second_so, tied_itself}
 use Rattle.std.specs.Ordering.{int_cmp, is_eq}
 use Rattle.std.specs.declared.cmp.Ordering.TheVariants.{Equal}
-use Rattle.dbpl_value.specs.declared.value.Value.{Value, Value-F, fold-Value, fold-roll-Value, ind-Value, map-Value, out-Value, out-roll-Value, roll-Value, roll-out-Value}
+use Rattle.dbpl_value.specs.declared.value.Value.{Value, Value-F, fold-roll-Value, ind-Value, map-Value, out-Value, out-roll-Value, roll-Value, roll-out-Value}
 use Rattle.dbpl_value.specs.declared.value.Value.TheOpen as values
 use Rattle.dbpl_relation.specs.Equality.{each_passes, is_same, is_same_level}
 

@@ -1,11 +1,11 @@
 -- The example types are of relations, and the example records are of them.
-use Rattle.std.proofs.Common.{◌≡◌, ◌<◌, ℕ, Bool, true, ◌&&◌, List, [], ◌∷◌, refl, ap, sym, ◌∙◌, arith, rules}
+use Rattle.std.proofs.Common.{◌≡◌, ◌<◌, ℕ, true, List, [], ◌∷◌, refl, ap, ◌∙◌, arith}
 use Rattle.std.proofs.lemmas.Bool.Decides.{nat_tests}
 use Rattle.std.specs.Prelude.{codes, pos}
 use Rattle.dbpl_value.proofs.ValuesLemmas.{is_of-out, tested}
 use Rattle.dbpl_value.specs.Types.{element_of, is_in}
 use Rattle.dbpl_value.specs.Values.{is_of, is_of_level}
-use Rattle.dbpl_value.specs.declared.db_type.DbType.{DbType, out-DbType}
+use Rattle.dbpl_value.specs.declared.db_type.DbType.{DbType}
 use Rattle.dbpl_value.specs.declared.db_type.DbType.TheVariants as types
 use Rattle.dbpl_value.specs.declared.db_type.DbType.TheVariants.{outs-Card, outs-Rec, outs-Rel}
 use Rattle.dbpl_value.specs.declared.db_type.DbType.TheOpen as kinds

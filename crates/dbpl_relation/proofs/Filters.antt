@@ -1,16 +1,15 @@
 -- Filters of the records of a relation.
-use Rattle.std.proofs.Common.{◌≡◌, Bool, true, false, cond, not, ◌&&◌, ◌||◌, List, [], ◌∷◌, ◌++◌, ◌+◌, ◌<◌, ℕ, length, take, get_or, length-append, Option, Some, None, refl, ap, sym, ◌∙◌, arith}
+use Rattle.std.proofs.Common.{◌≡◌, Bool, true, false, cond, not, ◌||◌, List, [], ◌∷◌, ◌++◌, ◌+◌, ◌<◌, ℕ, length, take, get_or, length-append, refl, ap, sym, ◌∙◌, arith}
 use Rattle.std.proofs.lemmas.List.{length-take, take_more}
 use Rattle.std.proofs.lemmas.List.Elements.{filter-append}
 use Rattle.std.proofs.lemmas.List.Folds.{list_any-append}
 use Rattle.std.specs.Cmp.{first_so, second_so}
-use Rattle.std.specs.List.{filter, items_where_true, list_all, list_any, position}
+use Rattle.std.specs.List.{filter, items_where_true, list_all}
 use Rattle.dbpl_value.specs.Keys.{keys_rise}
 use Rattle.dbpl_value.specs.Types.{element_of}
 use Rattle.dbpl_value.specs.Values.{is_of}
 use Rattle.dbpl_value.specs.declared.db_type.DbType.{DbType}
 use Rattle.dbpl_value.specs.declared.value.Value.{Value}
-use Rattle.dbpl_relation.proofs.EqualityLemmas.{is_same-equal}
 use Rattle.dbpl_relation.proofs.OfType.{are_records-all, are_records-of, are_records-rise}
 use Rattle.dbpl_relation.proofs.Puts.{both_so}
 use Rattle.dbpl_relation.specs.Changes.{everywhere, removed}

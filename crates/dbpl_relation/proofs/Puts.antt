@@ -1,7 +1,7 @@
 -- What `put` makes of records in the order of their keys.
-use Rattle.std.proofs.Common.{◌≡◌, ◌+◌, ◌<◌, ◌≤◌, ℕ, zero, suc, Bool, true, false, ◌&&◌, List, [], ◌∷◌, ◌++◌, length, get_or, set, take, drop, refl, ap, sym, subst, ◌∙◌, arith}
+use Rattle.std.proofs.Common.{◌≡◌, ◌<◌, ◌≤◌, ℕ, zero, suc, Bool, true, false, ◌&&◌, List, [], ◌∷◌, length, get_or, set, refl, ap, sym, ◌∙◌, arith}
 use Rattle.std.specs.Cmp.{first_so, second_so}
-use Rattle.std.specs.List.{AllWithin, HoldsAt, fold, insert, list_all}
+use Rattle.std.specs.List.{AllWithin, HoldsAt, insert, list_all}
 use Rattle.std.specs.Ordering.{is_eq, is_lt, ordering_reverse}
 use Rattle.std.specs.Prelude.{if◌then◌else◌}
 use Rattle.std.specs.declared.cmp.Ordering.{Ordering}
@@ -10,7 +10,7 @@ use Rattle.dbpl_value.proofs.KeyOrder.{key_cmp_total}
 use Rattle.dbpl_value.specs.Keys.{key_cmp, key_of, keys_rise}
 use Rattle.dbpl_value.specs.declared.db_type.DbType.{DbType}
 use Rattle.dbpl_value.specs.declared.value.Value.{Value}
-use Rattle.dbpl_relation.specs.Relations.{are_records, is_before, merged, put}
+use Rattle.dbpl_relation.specs.Relations.{is_before, merged, put}
 use Rattle.dbpl_relation.proofs.KeyLemmas.{is_lt-Less, key_cmp-exact}
 
 pub both_so : (a b : Bool) → a ≡ true → b ≡ true → a && b ≡ true

@@ -1,13 +1,12 @@
-use Rattle.std.proofs.Common.{◌≡◌, Bool, false, true, not, None, Some, Err, Ok, Result, List, refl, sym, ap, subst, ◌∙◌, rules}
+use Rattle.std.proofs.Common.{◌≡◌, Bool, not, None, Err, Ok, List, refl, sym, ap, subst, ◌∙◌}
 use Rattle.std.specs.List.{position}
 use Rattle.std.specs.Prelude.{◌≢◌, IfErr, OnOk}
 use Rattle.dbpl_value.specs.Keys.{parts_of}
 use Rattle.dbpl_value.specs.declared.db_type.DbType.{DbType}
 use Rattle.dbpl_value.specs.declared.value.Value.{Value}
 use Rattle.dbpl_value.specs.declared.value.Value.TheVariants as value
-use Rattle.dbpl_relation.proofs.Changing.{all_inside, changed-inside, changed-outside, changed_inside-ok, fault_in, position-never, removed-inside}
+use Rattle.dbpl_relation.proofs.Changing.{all_inside, changed-inside, changed_inside-ok, position-never, removed-inside}
 use Rattle.dbpl_relation.specs.Changes.{changed, changed_inside, everywhere}
-use Rattle.dbpl_relation.specs.declared.change_err.ChangeErr.{ChangeErr}
 use Rattle.dbpl_relation.specs.declared.change_err.ChangeErr.TheVariants as change_err
 use Rattle.dbpl_relation.specs.declared.op.Op.{Op}
 use Rattle.dbpl_relation.specs.declared.op.Op.TheVariants as op

@@ -1,4 +1,4 @@
-use Rattle.std.proofs.Common.{◌≡◌, None, Some, Ok, sym, ap, ◌∙◌, rules}
+use Rattle.std.proofs.Common.{None, Some, Ok, sym, ap, ◌∙◌}
 use Rattle.dbpl_value.specs.Keys.{parts_of}
 use Rattle.dbpl_relation.proofs.Changing.{changed_inside-clash, changed_inside-ok, fault_in}
 use Rattle.dbpl_relation.specs.Changes.{clashes}

@@ -1,7 +1,6 @@
-use Rattle.std.proofs.Common.{◌≡◌, true, not, reverse, refl, sym, ap, ◌∙◌, rules}
+use Rattle.std.proofs.Common.{not, reverse, ap, ◌∙◌, rules}
 use Rattle.std.proofs.lemmas.Fn.{filter_same}
 use Rattle.std.specs.List.{filter}
-use Rattle.dbpl_value.specs.Keys.{keys_rise}
 use Rattle.dbpl_value.specs.declared.value.Value.{Value}
 use Rattle.dbpl_relation.proofs.Filters.{are_records-kept}
 use Rattle.dbpl_relation.proofs.OfType.{are_records-merged, are_records-rise}

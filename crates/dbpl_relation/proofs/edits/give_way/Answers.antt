@@ -1,6 +1,5 @@
-use Rattle.std.proofs.Common.{◌≡◌, List, [], ◌∷◌, ◌++◌, map, reverse, refl, sym, ap, ◌∙◌, rules}
+use Rattle.std.proofs.Common.{[], ◌∷◌, reverse, sym, ap, ◌∙◌}
 use Rattle.std.proofs.lemmas.List.{reverse-append}
-use Rattle.dbpl_value.specs.declared.value.Value.{Value}
 use Rattle.dbpl_relation.proofs.EditLemmas.{replaced-nothing, replaced-step}
 use Rattle.dbpl_relation.proofs.OfType.{are_records-rest, are_records-rise}
 use Rattle.dbpl_relation.specs.Changes.{replaced}

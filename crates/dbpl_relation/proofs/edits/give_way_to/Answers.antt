@@ -1,4 +1,4 @@
-use Rattle.std.proofs.Common.{◌≡◌, true, false, refl, sym, ap, ◌∙◌, rules}
+use Rattle.std.proofs.Common.{true, false, refl, sym, ap, ◌∙◌}
 use Rattle.std.proofs.lemmas.Fn.{says_at}
 use Rattle.dbpl_value.specs.Keys.{key_of, keys_rise}
 use Rattle.dbpl_value.specs.Types.{element_of}

@@ -1,4 +1,4 @@
-use Rattle.std.proofs.Common.{◌≡◌, reverse, ap, ◌∙◌}
+use Rattle.std.proofs.Common.{reverse, ap, ◌∙◌}
 use Rattle.dbpl_relation.proofs.OfType.{are_records-merged}
 use Rattle.dbpl_relation.specs.Relations.{are_records}
 use Rattle.dbpl_relation.proofs.edits.merge.Goals as goal

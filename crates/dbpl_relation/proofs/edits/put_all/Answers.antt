@@ -1,4 +1,4 @@
-use Rattle.std.proofs.Common.{◌≡◌, ◌+◌, ◌≤◌, [], ◌∷◌, length, reverse, sym, ap, ◌∙◌, length-append, rules, arith}
+use Rattle.std.proofs.Common.{[], ◌∷◌, length, reverse, sym, ap, ◌∙◌, length-append, arith}
 use Rattle.std.proofs.lemmas.List.{reverse-append}
 use Rattle.dbpl_value.specs.Keys.{keys_rise}
 use Rattle.dbpl_relation.proofs.Puts.{put-rises}

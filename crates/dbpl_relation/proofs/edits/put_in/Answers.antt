@@ -1,9 +1,6 @@
-use Rattle.std.proofs.Common.{◌≡◌, true, refl, sym, ◌∙◌, ap, subst, rules}
-use Rattle.std.specs.Prelude.{List, Result, ℕ, ℤ}
-use Rattle.dbpl_value.specs.Keys.{key_of, keys_rise}
-use Rattle.dbpl_value.specs.declared.value.Value.{Value}
+use Rattle.std.proofs.Common.{sym, ◌∙◌, ap}
+use Rattle.dbpl_value.specs.Keys.{keys_rise}
 use Rattle.dbpl_relation.proofs.Puts.{put-absent, put-found}
-use Rattle.dbpl_relation.specs.Relations.{IsPlace}
 use Rattle.dbpl_relation.proofs.edits.put_in.Goals as goal
 
 pub returns-in-Ok-clause-items : goal.returns-in-Ok-clause-items

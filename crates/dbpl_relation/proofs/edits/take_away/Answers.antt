@@ -1,5 +1,4 @@
-use Rattle.std.proofs.Common.{◌≡◌, List, [], ◌∷◌, ◌++◌, length, refl, sym, ap, ◌∙◌, rules, arith}
-use Rattle.dbpl_value.specs.declared.value.Value.{Value}
+use Rattle.std.proofs.Common.{◌≡◌, List, [], ◌∷◌, length, refl, sym, ap, ◌∙◌, arith}
 use Rattle.dbpl_relation.proofs.Filters.{are_records-filter, filter-everything, removed-step}
 use Rattle.dbpl_relation.specs.Changes.{everywhere, removed}
 use Rattle.dbpl_relation.specs.Relations.{are_records}

@@ -1,4 +1,4 @@
-use Rattle.std.proofs.Common.{◌≡◌, true, false, refl, sym, ap, ◌∙◌, rules}
+use Rattle.std.proofs.Common.{sym, ap, ◌∙◌}
 use Rattle.std.proofs.lemmas.Bool.{true≢false}
 use Rattle.dbpl_value.specs.Keys.{key_of, keys_rise}
 use Rattle.dbpl_relation.proofs.EditLemmas.{is_same-at, removed-different, removed-none, removed-one, unlike-at}

@@ -1,5 +1,4 @@
-use Rattle.std.proofs.Common.{◌≡◌, ◌+◌, ◌<◌, ◌≤◌, ℕ, Bool, false, true, not, length, get_or, refl, sym, ap, ◌∙◌, ◌⊎◌, inl, inr, arith}
-use Rattle.std.proofs.lemmas.Bool.{cases_lt}
+use Rattle.std.proofs.Common.{◌≡◌, ◌<◌, false, true, not, length, refl, sym, ap, ◌∙◌, arith}
 use Rattle.std.proofs.lemmas.Fn.{says_at}
 use Rattle.std.specs.Prelude.{pos}
 use Rattle.dbpl_value.specs.declared.value.Value.{Value}

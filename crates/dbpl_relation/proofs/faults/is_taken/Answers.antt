@@ -1,4 +1,4 @@
-use Rattle.std.proofs.Common.{◌≡◌, get_or, not, refl, ap, sym, ◌∙◌, rules}
+use Rattle.std.proofs.Common.{not, refl, ap, sym, ◌∙◌}
 use Rattle.std.proofs.lemmas.Fn.{says_at}
 use Rattle.dbpl_value.specs.Keys.{key_of}
 use Rattle.dbpl_value.specs.declared.value.Value.{Value}

@@ -1,8 +1,7 @@
-use Rattle.std.proofs.Common.{◌≡◌, ◌+◌, ◌-◌, ◌*◌, ◌/◌, ◌^◌, ◌<◌, ◌≤◌, length, get_or, Some, sym, ap, ◌∙◌, subst, rules, arith}
+use Rattle.std.proofs.Common.{◌≡◌, ◌+◌, ◌-◌, ◌*◌, ◌/◌, ◌^◌, ◌<◌, length, Some, sym, ap, ◌∙◌, arith}
 use Rattle.std.proofs.lemmas.Option.{slice_get-get_or}
-use Rattle.std.specs.List.{HoldsAt}
 use Rattle.std.specs.declared.cmp.Ordering.TheVariants.{Equal, Greater, Less}
-use Rattle.dbpl_value.specs.Keys.{key_cmp, key_from, key_of}
+use Rattle.dbpl_value.specs.Keys.{key_from}
 use Rattle.dbpl_relation.proofs.Halving.{half, lower_half, step_within, twice, upper_half}
 use Rattle.dbpl_relation.proofs.Searching.{greater_above, less_before_equal, less_below, order_at, record_with-absent, record_with-found}
 use Rattle.dbpl_relation.proofs.lookup.find_in.Goals as goal

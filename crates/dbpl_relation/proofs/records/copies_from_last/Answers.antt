@@ -1,8 +1,7 @@
-use Rattle.std.proofs.Common.{◌≡◌, List, Result, Ok, Err, reverse, sym, ap, ◌∙◌}
+use Rattle.std.proofs.Common.{◌≡◌, List, Result, Ok, Err, reverse, ap, ◌∙◌}
 use Rattle.std.proofs.lemmas.List.{reverse-reverse}
 use Rattle.std.specs.Prelude.{IfOk, IsTrue}
 use Rattle.dbpl_base.specs.declared.memory.Memory.{Memory}
-use Rattle.dbpl_value.specs.Keys.{parts_of}
 use Rattle.dbpl_value.specs.declared.db_type.DbType.{DbType}
 use Rattle.dbpl_value.specs.declared.value.Value.{Value}
 use Rattle.dbpl_relation.proofs.OfType.{are_records-parts}

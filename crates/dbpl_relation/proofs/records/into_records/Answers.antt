@@ -1,6 +1,6 @@
-use Rattle.std.proofs.Common.{◌≡◌, sym, ap, ◌∙◌}
+use Rattle.std.proofs.Common.{sym, ap, ◌∙◌}
 use Rattle.dbpl_value.specs.Keys.{parts_of}
-use Rattle.dbpl_relation.proofs.OfType.{are_records-parts, is_Rel, is_Rel-parts, parts_of-Rel}
+use Rattle.dbpl_relation.proofs.OfType.{are_records-parts, is_Rel, parts_of-Rel}
 use Rattle.dbpl_relation.specs.Relations.{are_records}
 use Rattle.dbpl_relation.proofs.records.into_records.Goals as goal
 

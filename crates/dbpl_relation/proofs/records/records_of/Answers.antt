@@ -1,4 +1,4 @@
-use Rattle.std.proofs.Common.{◌≡◌, ap, ◌∙◌}
+use Rattle.std.proofs.Common.{ap, ◌∙◌}
 use Rattle.dbpl_value.specs.Keys.{keys_rise, parts_of}
 use Rattle.dbpl_relation.proofs.OfType.{are_records-parts, are_records-rise}
 use Rattle.dbpl_relation.proofs.records.records_of.Goals as goal

@@ -1,12 +1,8 @@
-use Rattle.std.proofs.Common.{◌≡◌, ◌+◌, ◌<◌, ◌≤◌, ℕ, Bool, false, true, cond, List, [], ◌∷◌, ◌++◌, length, take, refl, sym, ap, ◌∙◌, append-nil, rules, arith}
+use Rattle.std.proofs.Common.{◌≡◌, ◌<◌, cond, [], ◌∷◌, ◌++◌, length, refl, sym, ap, ◌∙◌, append-nil}
 use Rattle.std.proofs.lemmas.Fn.{says_at}
 use Rattle.std.proofs.lemmas.List.{take_all}
 use Rattle.std.specs.List.{items_where_true}
-use Rattle.std.specs.Prelude.{IsTrue}
-use Rattle.dbpl_value.specs.Keys.{parts_of}
-use Rattle.dbpl_value.specs.Values.{is_of}
 use Rattle.dbpl_value.specs.declared.value.Value.{Value}
-use Rattle.dbpl_value.specs.declared.value.Value.TheVariants as value
 use Rattle.dbpl_relation.proofs.Filters.{are_records-kept, filter_more, some_more}
 use Rattle.dbpl_relation.proofs.OfType.{are_records-parts, is_of-Rel}
 use Rattle.dbpl_relation.specs.Relations.{are_records}

@@ -1,11 +1,11 @@
-use Rattle.std.proofs.Common.{◌≡◌, ◌<◌, ◌∷◌, [], List, sym, ap, ◌∙◌, rules, arith}
+use Rattle.std.proofs.Common.{◌≡◌, ◌<◌, ◌∷◌, [], List, ap, ◌∙◌, arith}
 use Rattle.std.proofs.lemmas.Int.{to_z-of_z}
 use Rattle.std.specs.Prelude.{pos}
 use Rattle.dbpl_value.specs.Values.{is_of}
 use Rattle.dbpl_value.specs.declared.value.Value.{Value}
 use Rattle.dbpl_value.specs.declared.value.Value.TheVariants as value
 use Rattle.dbpl_relation.proofs.ExampleTypes.{one_sub-is_of}
-use Rattle.dbpl_relation.specs.Examples.{sub_of, subs}
+use Rattle.dbpl_relation.specs.Examples.{subs}
 use Rattle.dbpl_relation.proofs.tests.one_sub.Goals as goal
 
 pub returns : goal.returns

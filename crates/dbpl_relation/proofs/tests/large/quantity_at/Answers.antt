@@ -1,4 +1,4 @@
-use Rattle.std.proofs.Common.{◌≡◌, ◌-◌, ◌≤◌, arith}
+use Rattle.std.proofs.Common.{◌-◌, arith}
 use Rattle.dbpl_relation.proofs.Halving.{at_most_18}
 use Rattle.dbpl_relation.proofs.tests.large.quantity_at.Goals as goal
 

@@ -1,11 +1,11 @@
-use Rattle.std.proofs.Common.{◌≡◌, ◌<◌, ◌∷◌, [], List, sym, ap, ◌∙◌, rules, arith}
+use Rattle.std.proofs.Common.{◌≡◌, ◌<◌, ◌∷◌, [], List, ap, ◌∙◌, arith}
 use Rattle.std.proofs.lemmas.Int.{to_z-of_z}
 use Rattle.std.specs.Prelude.{pos}
 use Rattle.dbpl_value.specs.Values.{is_of}
 use Rattle.dbpl_value.specs.declared.value.Value.{Value}
 use Rattle.dbpl_value.specs.declared.value.Value.TheVariants as value
 use Rattle.dbpl_relation.proofs.ExampleTypes.{one_part-is_of}
-use Rattle.dbpl_relation.specs.Examples.{part_of, parts}
+use Rattle.dbpl_relation.specs.Examples.{parts}
 use Rattle.dbpl_relation.proofs.tests.nested.one_part.Goals as goal
 
 pub returns : goal.returns
