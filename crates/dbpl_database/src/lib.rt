@@ -1,0 +1,10 @@
+//! Databases: what they are, how a program's relation variables are bound to one, and their spelling.
+#![tactic(auto)]
+
+mod binding;
+mod limits;
+mod names;
+mod writing;
+
+pub use binding::bind;
+pub use writing::write_database;
