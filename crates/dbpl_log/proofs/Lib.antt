@@ -1,0 +1,4 @@
+pub mod Committing
+pub mod Leaving
+pub mod RecordLaws
+pub mod Staging

@@ -1,0 +1,4 @@
+pub mod Changes
+pub mod Fronts
+pub mod Records
+pub mod Rest
