@@ -1,5 +1,5 @@
 -- What holds of a type of each kind: how deep, how large and how sound it is, by the types that stand in it.
-use Rattle.std.proofs.Common.{◌≡◌, ℕ, ℤ, zero, suc, ◌+◌, ◌*◌, ◌<◌, ◌≤◌, ◌&&◌, max, Bool, true, false, if◌then◌else◌, List, [], ◌∷◌, ◌++◌, map, length, drop, get_or, add-one, drop-cons, refl, sym, ap, subst, ◌∙◌, arith}
+use Rattle.std.proofs.Common.{◌≡◌, ℕ, ℤ, suc, ◌+◌, ◌*◌, ◌<◌, ◌≤◌, ◌&&◌, max, Bool, true, false, List, [], ◌∷◌, map, length, drop, get_or, add-one, drop-cons, refl, sym, ap, subst, ◌∙◌, arith}
 use Rattle.std.proofs.lemmas.Bool.Decides.{nat_tests}
 use Rattle.std.proofs.lemmas.List.{drop_all, length-map}
 use Rattle.std.proofs.lemmas.List.Sums.{sum_by-cons}
@@ -7,7 +7,7 @@ use Rattle.std.proofs.lemmas.List.Folds.{list_all-append, list_all-map}
 use Rattle.std.specs.List.{flat_map, list_all, sum_by}
 use Rattle.std.specs.Prelude.{fold, nat_le, nat_lt, sum}
 use Rattle.dbpl_value.proofs.TypeParts.{by_answers-out, by_parts-out}
-use Rattle.dbpl_value.specs.Types.{count_of, depth_level, depth_of, greatest_of, inside, inside_level, is_none_left, is_sound, keeps_rules, relations_level, relations_of, scalars_level, scalars_of}
+use Rattle.dbpl_value.specs.Types.{count_of, depth_level, depth_of, greatest_of, inside, inside_level, is_sound, keeps_rules, relations_level, relations_of, scalars_level, scalars_of}
 use Rattle.dbpl_value.specs.declared.db_type.DbType.{DbType, DbType-F, map-DbType, out-DbType, roll-DbType, roll-out-DbType}
 use Rattle.dbpl_value.specs.declared.db_type.DbType.TheOpen as kinds
 use Rattle.dbpl_value.specs.declared.db_type.DbType.TheVariants as types

@@ -1,5 +1,5 @@
 -- A descriptor that is spelled is read, and what is read was spelled so: by induction on the depth.
-use Rattle.std.proofs.Common.{◌≡◌, ◌≢◌, ℕ, ℤ, zero, suc, ◌+◌, ◌<◌, ◌≤◌, ◌-◌, ◌^◌, ◌&&◌, Bool, true, false, if◌then◌else◌, List, [], ◌∷◌, ◌++◌, length, take, drop, get_or, inl, inr, Option, Some, None, refl, sym, ap, subst, ◌∙◌, arith, append_assoc}
+use Rattle.std.proofs.Common.{◌≡◌, ℕ, ℤ, zero, suc, ◌+◌, ◌<◌, ◌≤◌, ◌-◌, ◌^◌, ◌&&◌, Bool, true, false, if◌then◌else◌, List, [], ◌∷◌, ◌++◌, length, take, drop, inl, inr, Option, Some, None, refl, sym, ap, subst, ◌∙◌, arith, append_assoc}
 use Rattle.std.proofs.lemmas.Bool.{cases_lt, le-ltb, ltb-true, ltb-false, lt-ltb}
 use Rattle.std.proofs.lemmas.Bool.Decides.{nat_tests}
 use Rattle.std.proofs.lemmas.Int.{ints, of_z-to_z, to_z-of_z}
@@ -9,7 +9,7 @@ use Rattle.std.specs.Cmp.{first_so, second_so}
 use Rattle.std.specs.Cmp.Derive.{both_true}
 use Rattle.std.specs.Int.{cast_signed, cast_unsigned, w64}
 use Rattle.std.specs.List.{flat_map, list_all}
-use Rattle.std.specs.Prelude.{int_le, nat_eq, nat_lt, negsuc, pos}
+use Rattle.std.specs.Prelude.{int_le, nat_lt, negsuc, pos}
 use mir.Val.{SFits}
 use mir.ValLaws.{of_z_fits}
 use Rattle.byteorder.specs.Endian.{little_bytes, little_number}
@@ -17,10 +17,10 @@ use Rattle.byteorder.specs.Numbers.{little_number-reads_back}
 use Rattle.dbpl_value.specs.declared.db_type.DbType.{DbType}
 use Rattle.dbpl_value.specs.declared.db_type.DbType.TheVariants as types
 use Rattle.dbpl_value.specs.declared.field.Field.{Field}
-use Rattle.dbpl_codec.proofs.ByteLaws.{IsBytes, at_least, at_most, IsBytes-rest, some_is, word_at-again, word_at-takes}
+use Rattle.dbpl_codec.proofs.ByteLaws.{IsBytes, at_least, at_most, some_is, word_at-again, word_at-takes}
 use Rattle.dbpl_codec.proofs.ListLaws.{Completes, Sound, Spelled, bind_some, repeat-completes, repeat-sound}
 use Rattle.dbpl_codec.proofs.TypeBytes.{field_bytes, type_bytes-Arr, type_bytes-Bool, type_bytes-Card, type_bytes-Char, type_bytes-Enum, type_bytes-Int, type_bytes-Rec, type_bytes-Rel, type_bytes-Sub}
-use Rattle.dbpl_codec.proofs.TypeKinds.{Each, by_kind, field_fits, is_within, type_fits-Arr, type_fits-Bool, type_fits-Card, type_fits-Char, type_fits-Enum, type_fits-Int, type_fits-Rec, type_fits-Rel, type_fits-Sub, within-Arr, within-Bool, within-Card, within-Char, within-Enum, within-Int, within-Rec, within-Rel, within-Sub, within-none}
+use Rattle.dbpl_codec.proofs.TypeKinds.{by_kind, field_fits, is_within, type_fits-Arr, type_fits-Enum, type_fits-Rec, type_fits-Rel, type_fits-Sub, within-Arr, within-Rec, within-Rel, within-Sub, within-none}
 use Rattle.dbpl_codec.specs.Numbers.{count_bytes, count_fits, long_bytes, name_bytes, names_bytes, names_fit}
 use Rattle.dbpl_codec.specs.Reading.{Reader, ◌>>=◌, byte_at, repeat, word_at}
 use Rattle.dbpl_codec.specs.TypeReading.{array_at, bytes_at, enumeration_at, field_at, kind_at, long_at, name_at, names_at, record_at, relation_at, subrange_at, type_at}

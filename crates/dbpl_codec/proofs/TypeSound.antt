@@ -1,9 +1,9 @@
 -- A descriptor that is read was spelled so: by induction on the depth.
-use Rattle.std.proofs.Common.{◌≡◌, ℕ, ℤ, zero, suc, ◌<◌, ◌^◌, ◌&&◌, Bool, true, false, if◌then◌else◌, List, [], ◌∷◌, ◌++◌, length, Option, Some, None, refl, sym, ap, subst, ◌∙◌, append_assoc, arith}
+use Rattle.std.proofs.Common.{◌≡◌, ℕ, zero, suc, ◌<◌, ◌^◌, Bool, true, false, List, [], ◌∷◌, ◌++◌, length, Option, Some, None, refl, sym, ap, subst, ◌∙◌, append_assoc, arith}
 use Rattle.std.proofs.lemmas.Bool.{lt-ltb}
 use Rattle.std.proofs.lemmas.Bool.Decides.{nat_tests}
 use Rattle.std.specs.Cmp.Derive.{both_true}
-use Rattle.std.specs.List.{flat_map, list_all}
+use Rattle.std.specs.List.{flat_map}
 use Rattle.std.specs.Prelude.{nat_eq}
 use Rattle.byteorder.specs.Endian.{little_bytes}
 use Rattle.dbpl_value.specs.declared.db_type.DbType.{DbType}
@@ -13,11 +13,11 @@ use Rattle.dbpl_codec.proofs.ByteLaws.{IsBytes, IsBytes-rest, some_is, word_at-t
 use Rattle.dbpl_codec.proofs.ListLaws.{Sound, Spelled, bind_some, repeat-sound}
 use Rattle.dbpl_codec.proofs.TypeBytes.{field_bytes, type_bytes-Arr, type_bytes-Bool, type_bytes-Card, type_bytes-Char, type_bytes-Enum, type_bytes-Int, type_bytes-Rec, type_bytes-Rel, type_bytes-Sub}
 use Rattle.dbpl_codec.proofs.TypeKinds.{field_fits, is_within, type_fits-Arr, type_fits-Bool, type_fits-Card, type_fits-Char, type_fits-Enum, type_fits-Int, type_fits-Rec, type_fits-Rel, type_fits-Sub, within-Arr, within-Bool, within-Card, within-Char, within-Enum, within-Int, within-Rec, within-Rel, within-Sub}
-use Rattle.dbpl_codec.proofs.TypeReadLaws.{Spells, array_kind, bool_at, card_at, char_at, enumeration_kind, field_pair, int_at, long-sound, name-sound, names-sound, one, record_kind, relation_kind, subrange_kind}
-use Rattle.dbpl_codec.specs.Numbers.{count_bytes, count_fits, long_bytes, name_bytes, names_bytes, names_fit}
-use Rattle.dbpl_codec.specs.Reading.{Reader, ◌>>=◌, byte_at, repeat, word_at}
+use Rattle.dbpl_codec.proofs.TypeReadLaws.{Spells, field_pair, long-sound, name-sound, names-sound, one}
+use Rattle.dbpl_codec.specs.Numbers.{count_bytes, long_bytes, name_bytes, names_bytes}
+use Rattle.dbpl_codec.specs.Reading.{Reader, ◌>>=◌, repeat, word_at}
 use Rattle.dbpl_codec.specs.TypeReading.{array_at, enumeration_at, field_at, kind_at, long_at, name_at, names_at, record_at, relation_at, subrange_at, type_at}
-use Rattle.dbpl_codec.specs.TypeSpelling.{is_long, type_bytes, type_fits}
+use Rattle.dbpl_codec.specs.TypeSpelling.{type_bytes, type_fits}
 
 -- what was read behind the first byte of a kind was spelled so
 abbrev SpelledAs : ℕ → ℕ → List ℕ → DbType → List ℕ → Type 0

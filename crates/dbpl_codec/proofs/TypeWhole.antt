@@ -1,5 +1,5 @@
 -- A type, from all of the bytes of its descriptor.
-use Rattle.std.proofs.Common.{◌≡◌, ◌≢◌, ℕ, ◌&&◌, Bool, true, false, List, [], ◌∷◌, ◌++◌, Option, Some, None, refl, sym, ap, ◌∙◌}
+use Rattle.std.proofs.Common.{◌≡◌, ℕ, ◌&&◌, Bool, true, false, List, [], ◌++◌, Option, Some, sym, ap, ◌∙◌}
 use Rattle.std.proofs.lemmas.List.{append-nil}
 use Rattle.std.specs.Cmp.{first_so, second_so}
 use Rattle.std.specs.Cmp.Derive.{both_true}
@@ -7,7 +7,6 @@ use Rattle.std.specs.Prelude.{nat_le}
 use Rattle.dbpl_value.specs.Types.{depth_of, is_sound, is_type, relations_of}
 use Rattle.dbpl_value.specs.declared.db_type.DbType.{DbType}
 use Rattle.dbpl_codec.proofs.ByteLaws.{IsBytes, some_is}
-use Rattle.dbpl_codec.proofs.TypeKinds.{is_within}
 use Rattle.dbpl_codec.proofs.TypeReadLaws.{type_at-completes}
 use Rattle.dbpl_codec.proofs.TypeSound.{type_at-sound}
 use Rattle.dbpl_codec.proofs.WholeLaws.{whole_some}

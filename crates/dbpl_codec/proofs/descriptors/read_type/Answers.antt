@@ -1,6 +1,6 @@
-use Rattle.std.proofs.Common.{◌≡◌, true, false, Bool, Some, None, ap, arith, sym, ◌∙◌}
+use Rattle.std.proofs.Common.{arith, sym, ◌∙◌}
 use Rattle.std.proofs.lemmas.Result.{err_from_is_err_and}
-use Rattle.dbpl_codec.proofs.TypeWhole.{keeps, same_type, type_found, type_keeps, type_read, unkept}
+use Rattle.dbpl_codec.proofs.TypeWhole.{type_found, type_read, unkept}
 use Rattle.dbpl_codec.proofs.descriptors.read_type.Goals as goal
 
 pub returns-in_err-t-clause-only : goal.returns-in_err-t-clause-only

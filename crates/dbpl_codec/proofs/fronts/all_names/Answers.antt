@@ -1,4 +1,4 @@
-use Rattle.std.proofs.Common.{◌≡◌, sym, ◌∙◌}
+use Rattle.std.proofs.Common.{sym, ◌∙◌}
 use Rattle.std.proofs.lemmas.Result.{err_from_is_err_and}
 use Rattle.dbpl_codec.specs.TypeReading.{name_at}
 use Rattle.dbpl_codec.proofs.ReadingSteps.{fails, passes, repeat-done, repeat-step}

@@ -1,5 +1,4 @@
-use Rattle.std.proofs.Common.{◌≡◌, Bool, ◌&&◌, true, false, refl, sym, ap, ◌∙◌}
-use Rattle.dbpl_value.specs.Types.{are_different}
+use Rattle.std.proofs.Common.{refl, sym, ◌∙◌}
 use Rattle.dbpl_codec.proofs.FieldNames.{are_names-fields}
 use Rattle.dbpl_codec.proofs.names.are_field_names.Goals as goal
 

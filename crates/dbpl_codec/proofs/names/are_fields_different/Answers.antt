@@ -1,4 +1,4 @@
-use Rattle.std.proofs.Common.{◌≡◌, true, false, sym, ap, ◌∙◌, rules}
+use Rattle.std.proofs.Common.{sym, ◌∙◌}
 use Rattle.dbpl_codec.proofs.FieldNames.{different-goes, different-stops}
 use Rattle.dbpl_codec.proofs.names.are_fields_different.Goals as goal
 

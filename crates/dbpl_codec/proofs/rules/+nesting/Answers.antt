@@ -1,6 +1,4 @@
-use Rattle.std.proofs.Common.{◌≡◌, true, false, nat_le, sym, ap, ◌∙◌, rules}
-use Rattle.dbpl_value.specs.Types.{relations_of}
-use Rattle.dbpl_codec.proofs.TypeKinds.{all-done, all-goes, all-stops, nested-Rec}
+use Rattle.dbpl_codec.proofs.TypeKinds.{nested-Rec}
 use Rattle.dbpl_codec.proofs.rules.+nesting.Goals as goal
 
 pub are_relations_within-returns-in-Rec : goal.are_relations_within-returns-in-Rec

@@ -1,6 +1,5 @@
 use Rattle.std.proofs.Common.{◌≡◌, true, false, Bool, ◌&&◌, sym, ap, ◌∙◌, rules}
 use Rattle.dbpl_value.specs.Types.{is_sound, keeps_rules}
-use Rattle.dbpl_value.specs.declared.db_type.DbType.{DbType}
 use Rattle.dbpl_codec.proofs.TypeKinds.{is_sound-Arr, is_sound-Rec, is_sound-Rel, is_sound-Sub, is_sound-other}
 use Rattle.dbpl_codec.proofs.rules.+soundness.Goals as goal
 
