@@ -1,5 +1,6 @@
 //! Laws of the spellings, as contracts of functions that do nothing.
 ghost use Rattle.std.specs.Prelude.{◌≡◌, ◌++◌, IsTrue, List, length, ℕ};
+ghost use Rattle.dbpl_codec.specs.TypeSpelling.{type_bytes, type_fits};
 ghost use Rattle.dbpl_codec.specs.ValueSpelling.{bytes_of, value_fits};
 ghost use Rattle.dbpl_value.specs.Sizes.{size_of};
 ghost use Rattle.dbpl_value.specs.Types.{is_type};
@@ -12,6 +13,12 @@ pub fn one_value()
     ensures { (t : DbType) (v w : Value) (rest other : List ℕ) → IsTrue (is_type t) → IsTrue (is_of t v) →
         IsTrue (value_fits t v) → IsTrue (is_of t w) → IsTrue (value_fits t w) →
         bytes_of t v ++ rest ≡ bytes_of t w ++ other → (v ≡ w) × (rest ≡ other) }
+{}
+
+/// No descriptor begins another, and two types with one descriptor are equal.
+pub fn one_type()
+    ensures { (t u : DbType) (rest other : List ℕ) → IsTrue (is_type t) → IsTrue (type_fits t) → IsTrue (is_type u) →
+        IsTrue (type_fits u) → type_bytes t ++ rest ≡ type_bytes u ++ other → (t ≡ u) × (rest ≡ other) }
 {}
 
 /// The coded size of a value is the length of its spelling.
