@@ -1,2 +1,6 @@
 pub mod Bindings
+pub mod BoundLaws
+pub mod DatabaseLaws
+pub mod Given
 pub mod Rising
+pub mod StringSteps

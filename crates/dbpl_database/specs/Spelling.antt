@@ -17,8 +17,8 @@ database_bytes database = count_bytes database ++ flat_map bound_bytes database
 
 abbrev pub bound_fits : Bound → Bool
 bound_fits bound =
-    type_fits bound.kind && value_fits bound.kind bound.rel && count_fits (type_bytes bound.kind) &&
-    count_fits (bytes_of bound.kind bound.rel)
+    count_fits bound.name && type_fits bound.kind && count_fits (type_bytes bound.kind) &&
+    value_fits bound.kind bound.rel && count_fits (bytes_of bound.kind bound.rel)
 
 -- each count in the spelling is below 2^32
 abbrev pub database_fits : List Bound → Bool

@@ -4,7 +4,10 @@
 mod binding;
 mod limits;
 mod names;
+mod reading;
+mod strings;
 mod writing;
 
 pub use binding::bind;
+pub use reading::read_database;
 pub use writing::write_database;
