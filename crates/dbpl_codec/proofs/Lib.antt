@@ -1,3 +1,4 @@
+pub mod Growing
 pub mod KeyBytes
 pub mod TypeBytes
 pub mod TypeKinds

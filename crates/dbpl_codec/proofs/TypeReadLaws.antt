@@ -147,6 +147,19 @@ long_fits (negsuc n) h =
     let below = at_least n 9223372036854775807 (first_so (int_le (negsuc 9223372036854775807) (negsuc n)) _ h) in
     record { sfits = omega arith }
 
+-- what eight bytes hold is a long number
+pub long-in : (z : ℤ) → SFits w64 z → is_long z ≡ true
+long-in (pos n) f =
+    let below = f.sfits in
+    let low : int_le (negsuc 9223372036854775807) (pos n) ≡ true = grind (arith, ints) in
+    let high : int_le (pos n) (pos 9223372036854775807) ≡ true = grind (arith, ints) in
+    both_true low high
+long-in (negsuc n) f =
+    let below = f.sfits in
+    let low : int_le (negsuc 9223372036854775807) (negsuc n) ≡ true = grind (arith, ints) in
+    let high : int_le (negsuc n) (pos 9223372036854775807) ≡ true = grind (arith, ints) in
+    both_true low high
+
 below_long : (z : ℤ) → is_long z ≡ true → cast_unsigned w64 z < 2 ^ 64
 below_long z h = (of_z_fits w64 z (long_fits z h)).fits
 

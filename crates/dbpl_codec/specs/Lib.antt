@@ -1,3 +1,4 @@
+pub mod Growth
 pub mod KeySpelling
 pub mod Numbers
 pub mod Reading
