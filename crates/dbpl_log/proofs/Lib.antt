@@ -1,4 +1,6 @@
 pub mod Committing
+pub mod Creating
+pub mod Heads
 pub mod Leaving
 pub mod RecordLaws
 pub mod Staging

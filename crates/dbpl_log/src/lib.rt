@@ -2,6 +2,12 @@
 #![tactic(auto)]
 
 mod commit;
+mod create_err;
+mod creation;
+mod head;
 mod log;
+mod syncs;
 
+pub use create_err::CreateErr;
+pub use creation::create;
 pub use log::Log;
