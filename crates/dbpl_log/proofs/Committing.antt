@@ -17,7 +17,7 @@ use Rattle.dbpl_log.specs.Changes.{LeavesLog, BeginsWith, HasEither, staging}
 use Rattle.dbpl_log.proofs.RecordLaws.{records_hold, holds_records, front_more, length_front}
 use Rattle.dbpl_log.proofs.Leaving.{moments_leave_weaken, moments_leave_then, moments_writing}
 
-bytes_of_more : (records : List (List ℕ)) (added : List ℕ) → bytes_of_all (records ++ added ∷ []) ≡ bytes_of_all records + (5 + length added)
+pub bytes_of_more : (records : List (List ℕ)) (added : List ℕ) → bytes_of_all (records ++ added ∷ []) ≡ bytes_of_all records + (5 + length added)
 bytes_of_more [] added = omega arith
 bytes_of_more (first ∷ others) added = omega (arith, bytes_of_more others added)
 

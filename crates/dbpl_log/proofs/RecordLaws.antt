@@ -116,7 +116,7 @@ length_open bytes (first ∷ others) (field, behind, is, four, number, opened) =
 pub length_front : (front : List ℕ) (records : List (List ℕ)) → IsFront front records → length front ≡ next_gate records
 length_front front records whole = omega (arith, ap length whole.is, length-append open_head whole.behind, length_head, length_open whole.behind records whole.are_open)
 
-read_head : (log : List ℕ) → HasHead log → records_of log ≡ records_from (length log) (drop 16 log)
+pub read_head : (log : List ℕ) → HasHead log → records_of log ≡ records_from (length log) (drop 16 log)
 unfolding records_of
 read_head log head = rw ((bytes_eq-Decides (take 16 log) open_head).1 head) refl
 

@@ -1,9 +1,10 @@
 -- The store between two calls: one log, that a stop leaves as it is.
-use Rattle.std.specs.Prelude.{◌≡◌, ℕ, ◌+◌, List, Some}
+use Rattle.std.specs.Prelude.{◌≡◌, ℕ, ◌+◌, List, map, Some}
 use Rattle.dbpl_world.specs.Images.{settled}
 use Rattle.dbpl_world.specs.History.{State}
 use Rattle.dbpl_log.specs.Records.{records_of, next_gate}
 use Rattle.dbpl_log.specs.declared.log.Log.{Log}
+use Rattle.dbpl_log.specs.declared.opened.Opened.{Opened}
 
 -- a stop leaves one log, and it has these records
 pub record HasOnly (s : State) (records : List (List ℕ)) : Type 0 where
@@ -18,3 +19,7 @@ length_of log = log.gate + 1
 pub record IsAtRest (s : State) (log : Log) (records : List (List ℕ)) : Type 0 where
   pub only : HasOnly s records
   pub gate : log.gate ≡ next_gate records
+
+-- the records that an opening has given
+abbrev pub records_in : Opened → List (List ℕ)
+records_in opened = map (λ one. one.items) opened.records.items

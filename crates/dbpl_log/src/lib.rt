@@ -2,6 +2,19 @@
 #![tactic(auto)]
 
 mod commit;
+mod create_err;
+mod creation;
+mod head;
 mod log;
+mod open_err;
+mod opened;
+mod opening;
+mod reading;
+mod syncs;
 
+pub use create_err::CreateErr;
+pub use creation::create;
 pub use log::Log;
+pub use open_err::OpenErr;
+pub use opened::Opened;
+pub use opening::open;
