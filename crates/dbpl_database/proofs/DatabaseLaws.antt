@@ -1,5 +1,5 @@
 -- A database that is spelled is read, and what is read was spelled so.
-use Rattle.std.proofs.Common.{◌≡◌, ◌&&◌, ◌<◌, ◌^◌, ℕ, Bool, true, false, if◌then◌else◌, List, [], ◌++◌, length, Option, Some, None, refl, sym, ap, subst, ◌∙◌, append_assoc}
+use Rattle.std.proofs.Common.{◌≡◌, ◌&&◌, ◌<◌, ◌^◌, ℕ, Bool, true, false, if◌then◌else◌, List, [], ◌++◌, length, Option, Some, None, Result, Ok, Err, refl, sym, ap, subst, ◌∙◌, append_assoc}
 use Rattle.std.proofs.lemmas.Bool.{lt-ltb, ltb-true}
 use Rattle.std.proofs.lemmas.List.{append-nil}
 use Rattle.std.specs.Cmp.{first_so, second_so}
@@ -10,7 +10,9 @@ use Rattle.dbpl_codec.proofs.ByteLaws.{IsBytes, some_is, word_at-again, word_at-
 use Rattle.dbpl_codec.proofs.ListLaws.{Completes, Sound, Spelled, bind_some, repeat-completes, repeat-sound}
 use Rattle.dbpl_codec.proofs.WholeLaws.{whole_some}
 use Rattle.dbpl_codec.specs.Numbers.{count_bytes, count_fits}
-use Rattle.dbpl_codec.specs.Reading.{◌>>=◌, repeat, whole, word_at}
+use Rattle.std.specs.Prelude.{IfOk}
+use Rattle.dbpl_codec.specs.Reading.{Gives, ◌>>=◌, repeat, whole, word_at}
+use Rattle.dbpl_codec.specs.declared.read_err.ReadErr.{ReadErr}
 use Rattle.dbpl_database.proofs.BoundLaws.{bound-completes, bound-sound, passed}
 use Rattle.dbpl_database.specs.Databases.{is_bound, is_database, names_rise}
 use Rattle.dbpl_database.specs.Reading.{bound_at, bounds_at, database_of}
@@ -83,3 +85,10 @@ database_of-sound bytes database h e =
       spelled.fit,
       spelled.parts ∙ append-nil (database_bytes database),
     )
+
+pub database_found :
+    (bytes : List ℕ) (result : Result (List Bound) ReadErr) → IsBytes bytes →
+    Gives (λ database. database) result (database_of bytes) →
+    IfOk result (λ database. (is_database database ≡ true) × (database_fits database ≡ true) × (bytes ≡ database_bytes database))
+database_found bytes (Ok database) h read = database_of-sound bytes database h read
+database_found bytes (Err e) h read = tt

@@ -1,7 +1,8 @@
 -- What reading gave is what the definition gives.
-use Rattle.std.proofs.Common.{◌≡◌, ◌≢◌, ◌&&◌, ℕ, Bool, true, false, List, Option, Some, None, Result, Ok, Err, refl, sym, ap, ◌∙◌}
+use Rattle.std.proofs.Common.{◌≡◌, ◌≢◌, ◌&&◌, ℕ, Bool, true, false, List, [], ◌++◌, Option, Some, None, Result, Ok, Err, refl, ap, subst, ◌∙◌}
 use Rattle.std.specs.Prelude.{IfOk}
 use Rattle.dbpl_codec.proofs.ByteLaws.{IsBytes}
+use Rattle.dbpl_codec.specs.Numbers.{count_fits}
 use Rattle.dbpl_codec.specs.Reading.{Gives}
 use Rattle.dbpl_codec.specs.TypeSpelling.{type_bytes, type_fits}
 use Rattle.dbpl_codec.specs.ValueSpelling.{bytes_of, value_fits}
@@ -52,3 +53,10 @@ bound_given bound type of =
     by_tests true true small = refl
     by_tests true false small = refl
     by_tests false typed small = refl
+
+-- what was written alone, and read again behind its number
+pub alone_fits :
+    (text items before spelling : List ℕ) → count_fits text ≡ true → text ≡ items → items ≡ before ++ spelling →
+    before ≡ [] → count_fits spelling ≡ true
+alone_fits text items before spelling fits same written empty =
+    subst (λ (bs : List ℕ). count_fits bs ≡ true) (same ∙ written ∙ ap (λ (front : List ℕ). front ++ spelling) empty) fits

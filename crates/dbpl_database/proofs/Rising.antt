@@ -97,4 +97,3 @@ pub rises-not :
     is_lt (name_cmp last.name next.name) ≡ false → names_rise records ≡ false
 rises-not records i last next positive within el en not_less =
     falls records (names_rise records) refl i last next positive within el en not_less
-

@@ -2,6 +2,7 @@
 #![tactic(auto)]
 
 mod binding;
+mod laws;
 mod limits;
 mod names;
 mod reading;
@@ -9,5 +10,6 @@ mod strings;
 mod writing;
 
 pub use binding::bind;
+pub use laws::one_database;
 pub use reading::read_database;
 pub use writing::write_database;

@@ -4,7 +4,9 @@ ghost use Rattle.dbpl_codec.specs.KeySpelling.{key_type as key_type_of, type_nam
 ghost use Rattle.dbpl_database.specs.Databases.{are_small as are_small_records, is_kept_type as is_kept_type_of, key_size as key_size_of, host_width as host_width_of, key_width as key_width_of};
 
 use dbpl_base::Name;
-use dbpl_value::{DbType, Field, Value, count_of, element_of, fields_of, keys_of, parts_of, size_of};
+use dbpl_value::{
+    DbType, Field, Value, count_of, element_of, fields_of, keys_of, parts_of, size_of,
+};
 
 /// How many bytes a record may take.
 const RECORD_BYTES: u64 = 1_048_576;
@@ -76,5 +78,7 @@ pub(crate) fn are_small(t: &DbType, relation: &Value) -> bool
     ensures { result ≡ are_small_records t.now relation.now }
 {
     let record = element_of(t);
-    parts_of(relation).iter().all(|part| size_of(record, part) <= RECORD_BYTES)
+    parts_of(relation)
+        .iter()
+        .all(|part| size_of(record, part) <= RECORD_BYTES)
 }

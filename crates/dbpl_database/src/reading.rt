@@ -4,8 +4,9 @@ ghost use Rattle.dbpl_codec.specs.Reading.{Gives, repeat, whole, word_at};
 ghost use Rattle.dbpl_codec.specs.TypeReading.{name_at};
 ghost use Rattle.dbpl_value.specs.Types.{is_type};
 ghost use Rattle.dbpl_value.specs.Values.{is_of};
-ghost use Rattle.dbpl_database.specs.Databases.{are_small as are_small_records, is_bound as is_bound_of, is_kept_name as is_kept_name_of, is_kept_type as is_kept_type_of};
+ghost use Rattle.dbpl_database.specs.Databases.{are_small as are_small_records, is_bound as is_bound_of, is_database, is_kept_name as is_kept_name_of, is_kept_type as is_kept_type_of};
 ghost use Rattle.dbpl_database.specs.Reading.{bound_at as bound_of, bound_from as bound_from_strings, bounds_at, database_of, type_in, value_in};
+ghost use Rattle.dbpl_database.specs.Spelling.{database_bytes, database_fits};
 
 use crate::limits::{are_small, is_kept_type};
 use crate::names::{is_kept_name, rise};
@@ -16,9 +17,18 @@ use dbpl_value::{Bound, DbType, Value};
 use std::alloc::Global;
 
 /// The database that these bytes spell.
-#[tactic(auto, unfolding(crate::specs::Reading::database_of))]
 pub fn read_database(alloc: Global, bytes: &[u8]) -> Result<List<Bound>, ReadErr>
     ensures reads { Gives (λ database. database) result (database_of bytes.now) }
+    // What is read is a database and was spelled so.
+    ensures found { IfOk result (λ database. IsTrue (is_database database) × IsTrue (database_fits database)
+        × (bytes.now ≡ database_bytes database)) }
+{
+    risen_database(alloc, bytes)
+}
+
+#[tactic(auto, unfolding(crate::specs::Reading::database_of))]
+fn risen_database(alloc: Global, bytes: &[u8]) -> Result<List<Bound>, ReadErr>
+    ensures { Gives (λ database. database) result (database_of bytes.now) }
 {
     let database = whole_database(alloc, bytes)?;
     if rise(database.as_slice()) {
@@ -108,5 +118,7 @@ fn kept(bound: Bound) -> Result<Bound, ReadErr>
 fn is_bound(bound: &Bound) -> bool
     ensures { result ≡ (is_kept_name_of bound.now.name && is_kept_type_of bound.now.kind && are_small_records bound.now.kind bound.now.rel) }
 {
-    is_kept_name(bound.name.as_bytes()) && is_kept_type(&bound.kind) && are_small(&bound.kind, &bound.rel)
+    is_kept_name(bound.name.as_bytes())
+        && is_kept_type(&bound.kind)
+        && are_small(&bound.kind, &bound.rel)
 }
