@@ -1,12 +1,15 @@
 -- A relation variable put in its place.
-use Rattle.std.proofs.Common.{◌≡◌, ◌≤◌, ◌+◌, ◌<◌, ℕ, suc, Bool, true, false, not, cond, ltb, List, [], ◌∷◌, length, Some, None, Option, ◌↔◌, IsTrue, MatchBool, Bor, inl, refl, ap, sym, ◌∙◌, arith, insert}
-use Rattle.std.proofs.lemmas.Bool.{ltb-false}
+use Rattle.std.proofs.Common.{◌≡◌, ◌≤◌, ◌+◌, ◌<◌, ℕ, suc, Bool, true, false, not, cond, ltb, List, [], ◌∷◌, length, Some, None, Option, slice_get, refl, ap, sym, ◌∙◌, arith, insert}
+use Rattle.std.proofs.lemmas.Bool.{ltb-false, ltb-true}
 use Rattle.std.proofs.lemmas.Iterator.Adapters.{position_from-zero}
 use Rattle.std.proofs.lemmas.List.Sums.{prefix_len-le-length}
-use Rattle.std.specs.List.{position_from, position_or_len}
-use Rattle.std.specs.Option.{option_copied, unwrap_or}
+use Rattle.std.proofs.lemmas.List.Folds.{find_at}
+use Rattle.std.proofs.lemmas.Option.{slice_get_past}
+use Rattle.std.specs.List.{find, position_from, position_or_len}
+use Rattle.std.specs.Option.{option_and_then, unwrap_or}
 use Rattle.std.specs.Ordering.{is_lt}
-use Rattle.dbpl_database.specs.Binding.{Binds, Differs, bound_named, empty_bound, with_bound}
+use Rattle.std.specs.Prelude.{IfSome}
+use Rattle.dbpl_database.specs.Binding.{empty_bound, with_bound}
 use Rattle.dbpl_database.specs.Databases.{name_cmp}
 use Rattle.dbpl_value.specs.declared.bound.Bound.{Bound}
 use Rattle.dbpl_value.specs.declared.field.Field.{Field}
@@ -56,21 +59,24 @@ pub added :
 added field bound database seen after at put place same is =
     put ∙ rw (place, same, is) (inserted (empty_bound field) database)
 
-false-true : IsTrue false → ⊥
-false-true e = cc
+-- the first that passes, by its place
+pub found_at :
+    {X : Type 0} (test : X → Bool) (xs : List X) → option_and_then (slice_get xs) (position_from test 0 xs) ≡ find test xs
+found_at test xs = rw (← position_from-zero test xs, find_at test xs) (by_test (ltb (position_or_len test xs) (length xs)) refl)
+  where
+    by_test :
+        (within : Bool) → ltb (position_or_len test xs) (length xs) ≡ within →
+        option_and_then (slice_get xs) (cond within (Some (position_or_len test xs)) None)
+        ≡ slice_get xs (position_or_len test xs)
+    by_test true e = refl
+    by_test false e = sym (slice_get_past xs (position_or_len test xs) (ltb-false (position_or_len test xs) (length xs) e))
 
-bound_if :
-    (field : Field) (database : List Bound) (bound : Bound) (is_same : Bool) → bound_named field.name database ≡ Some bound →
-    (IsTrue is_same → bound.kind ≡ field.kind) → (bound.kind ≡ field.kind → IsTrue is_same) →
-    MatchBool is_same (Binds field database database) (Differs field database × (database ≡ database))
-bound_if field database bound true found same other = inl ((bound, found, same refl), refl)
-bound_if field database bound false found same other = ((bound, found, (λ e. false-true (other e))), refl)
-
--- where the name is there, the answer is whether the types are one
-pub bound_by :
-    (field : Field) (database : List Bound) (found : Option (Bor Bound)) (bound : Bor Bound) (is_same : Bool) →
-    option_copied found ≡ bound_named field.name database → found ≡ Some bound →
-    (IsTrue is_same ↔ (bound.now.kind ≡ field.kind)) →
-    MatchBool is_same (Binds field database database) (Differs field database × (database ≡ database))
-bound_by field database found bound is_same named is same =
-    bound_if field database bound.now is_same (sym named ∙ ap option_copied is) same.0 same.1
+pub found_within :
+    {X : Type 0} (test : X → Bool) (xs : List X) → IfSome (position_from test 0 xs) (λ at. at < length xs)
+found_within test xs = rw (← position_from-zero test xs) (by_test (ltb (position_or_len test xs) (length xs)) refl)
+  where
+    by_test :
+        (within : Bool) → ltb (position_or_len test xs) (length xs) ≡ within →
+        IfSome (cond within (Some (position_or_len test xs)) None) (λ at. at < length xs)
+    by_test true e = ltb-true (position_or_len test xs) (length xs) e
+    by_test false e = tt

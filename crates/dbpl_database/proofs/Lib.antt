@@ -2,5 +2,6 @@ pub mod Bindings
 pub mod BoundLaws
 pub mod DatabaseLaws
 pub mod Given
+pub mod Holding
 pub mod Rising
 pub mod StringSteps

@@ -1,11 +1,13 @@
 -- What a database is once a program's relation variable is bound to it.
-use Rattle.std.specs.Prelude.{◌≡◌, ◌≢◌, ◌⊎◌, ℕ, if◌then◌else◌, List, [], ◌∷◌, Option, Some, None}
+use Rattle.std.specs.Prelude.{◌≡◌, ◌≢◌, ◌⊎◌, ℕ, if◌then◌else◌, List, [], ◌∷◌, slice_get, slice_set, Option, Some, None}
 use Rattle.std.specs.List.{find}
+use Rattle.std.specs.Option.{option_map_or}
 use Rattle.std.specs.Ordering.{is_lt}
 use Rattle.dbpl_database.specs.Databases.{name_cmp}
 use Rattle.dbpl_value.specs.Types.{is_same_name}
 use Rattle.dbpl_value.specs.declared.bound.Bound.{Bound}
 use Rattle.dbpl_value.specs.declared.field.Field.{Field}
+use Rattle.dbpl_value.specs.declared.value.Value.{Value}
 use Rattle.dbpl_value.specs.declared.value.Value.TheVariants as value
 
 -- the relation variable of this name, if there is one
@@ -42,3 +44,14 @@ abbrev pub BindsAll : List Field → List Bound → List Bound → Type 0
 BindsAll [] database after = after ≡ database
 BindsAll (field ∷ fields) database after =
     (between : List Bound) × Binds field database between × BindsAll fields between after
+
+-- ---- the relation that a variable holds
+
+-- the variable holds this relation
+abbrev pub holding : Value → Bound → Bound
+holding relation bound = record bound { rel = relation }
+
+-- the database with this relation in the variable at that place
+abbrev pub with_relation : Value → ℕ → List Bound → List Bound
+with_relation relation at database =
+    option_map_or (λ bound. slice_set database at (holding relation bound)) (slice_get database at) database

@@ -1,38 +1,42 @@
-//! A program's relation variables are bound to a database.
-ghost use Rattle.std.specs.Prelude.{◌≡◌, ◌≤◌, IfOk, length, MatchBool, OnErr, OnOk};
+//! A relation variable of a program finds its place in a database.
+ghost use Rattle.std.specs.Prelude.{◌≡◌, ◌≤◌, ◌<◌, IfOk, IfSome, insert, length, OnErr, slice_get};
 ghost use Rattle.std.specs.List.{position_from, position_or_len};
+ghost use Rattle.std.specs.Option.{option_and_then};
 ghost use Rattle.std.specs.Ordering.{is_lt};
-ghost use Rattle.dbpl_database.specs.Binding.{Binds, Differs, empty_bound as empty_bound_of, with_bound};
+ghost use Rattle.dbpl_database.specs.Binding.{bound_named, empty_bound as empty_bound_of, with_bound};
 ghost use Rattle.dbpl_database.specs.Databases.{name_cmp};
+ghost use Rattle.dbpl_value.specs.Types.{is_same_name};
 
-use crate::names::{is_less, named};
+use crate::names::is_less;
 use dbpl_base::{List, Memory, Name};
-use dbpl_value::{Bound, Field, Value, copy_type, same_type};
+use dbpl_value::{Bound, Field, Value, copy_type};
 use std::alloc::Global;
 
-/// Binds a relation variable of a program, and adds it, empty, where its name is absent. The answer is whether it is
-/// bound: it isn't where its name is there with another type.
-pub fn bind(alloc: Global, database: &mut List<Bound>, field: &Field) -> Result<bool, Memory>
-    ensures bound { IfOk result (λ is_bound. MatchBool is_bound
-        (Binds field.now database.old database.new)
-        (Differs field.now database.old × (database.new ≡ database.old))) }
-    ensures kept { OnErr result (database.new ≡ database.old) }
+/// Where the relation variable of this name stands, if it is there.
+pub fn place_of(database: &[Bound], name: &Name) -> Option<usize>
+    ensures named { option_and_then (slice_get database.now) result ≡ bound_named name.now database.now }
+    ensures within { IfSome result (λ at. at < length database.now) }
 {
-    if let Some(bound) = named(database.as_slice(), &field.name) {
-        return Ok(same_type(&bound.kind, &field.kind));
-    }
-    add_empty(alloc, database, field)?;
-    Ok(true)
+    first_named(database, name)
 }
 
-fn add_empty(alloc: Global, database: &mut List<Bound>, field: &Field) -> Result<(), Memory>
-    ensures ok { OnOk result (database.new ≡ with_bound (empty_bound_of field.now) database.old) }
+fn first_named(database: &[Bound], name: &Name) -> Option<usize>
+    ensures { result ≡ position_from (λ bound. is_same_name bound.name name.now) 0 database.now }
+{
+    database.iter().position(|bound| bound.name == *name)
+}
+
+/// Adds a relation variable of a program, empty, where it belongs, and answers where that is.
+pub fn add_empty(alloc: Global, database: &mut List<Bound>, field: &Field) -> Result<usize, Memory>
+    ensures inserted { IfOk result (λ at. database.new ≡ insert database.old at (empty_bound_of field.now)) }
+    ensures within { IfOk result (λ at. at ≤ length database.old) }
+    ensures ok { IfOk result (λ at. database.new ≡ with_bound (empty_bound_of field.now) database.old) }
     ensures err { OnErr result (database.new ≡ database.old) }
 {
     let bound = empty_bound(alloc, field)?;
     let at = place(database.as_slice(), &field.name);
     database.insert(at, bound)?;
-    Ok(())
+    Ok(at)
 }
 
 fn empty_bound(alloc: Global, field: &Field) -> Result<Bound, Memory>

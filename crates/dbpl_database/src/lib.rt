@@ -6,10 +6,12 @@ mod laws;
 mod limits;
 mod names;
 mod reading;
+mod relations;
 mod strings;
 mod writing;
 
-pub use binding::bind;
+pub use binding::{add_empty, place_of};
 pub use laws::one_database;
 pub use reading::read_database;
+pub use relations::put_relation;
 pub use writing::write_database;

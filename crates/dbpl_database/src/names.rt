@@ -1,11 +1,9 @@
 //! Names of relation variables, and their order.
 ghost use Rattle.std.specs.Prelude.{◌≡◌, length};
 ghost use Rattle.std.specs.List.{list_all, take_while};
-ghost use Rattle.std.specs.Option.{option_copied};
 ghost use Rattle.std.specs.Ordering.{is_lt};
 ghost use Rattle.dbpl_base.specs.Words.{is_letter as is_letter_byte, is_word_byte};
 ghost use Rattle.dbpl_value.specs.Types.{is_identifier as is_identifier_name};
-ghost use Rattle.dbpl_database.specs.Binding.{bound_named};
 ghost use Rattle.dbpl_database.specs.Databases.{is_joined_name as is_joined, is_kept_name as is_kept_name_of, is_no_stop, name_cmp, names_rise};
 
 use dbpl_base::Name;
@@ -74,11 +72,4 @@ pub(crate) fn rise(database: &[Bound]) -> bool
         }
     }
     true
-}
-
-/// The relation variable of this name.
-pub(crate) fn named<'a>(database: &'a [Bound], name: &Name) -> Option<&'a Bound>
-    ensures { option_copied result ≡ bound_named name.now database.now }
-{
-    database.iter().find(|bound| bound.name == *name)
 }
