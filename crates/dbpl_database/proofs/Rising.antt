@@ -13,7 +13,7 @@ use Rattle.std.proofs.lemmas.Cmp.{nat_list_cmp_total}
 use Rattle.dbpl_database.specs.Databases.{name_cmp, names_rise}
 use Rattle.dbpl_value.specs.declared.bound.Bound.{Bound}
 
-is_lt-Less : (o : Ordering) → is_lt o ≡ true → o ≡ Less
+pub is_lt-Less : (o : Ordering) → is_lt o ≡ true → o ≡ Less
 is_lt-Less Less h = refl
 is_lt-Less Equal h = cc
 is_lt-Less Greater h = cc
