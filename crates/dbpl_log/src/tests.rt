@@ -24,6 +24,7 @@ fn world_of(alloc: Global, log: &[u8], pages: &[u8], fails: &[u64]) -> Option<Me
 /// How long the log is, and its first bytes.
 fn first_bytes<const N: usize>(world: &mut MemoryWorld) -> Result<(u64, [u8; N]), Failed>
     requires mounted { IsSome (mounted_in world.old) }
+    ensures mounted { IsSome (mounted_in world.new) }
 {
     let size = world.size(Part::Log)?;
     let mut bytes = [9; N];
