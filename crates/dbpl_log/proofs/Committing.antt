@@ -31,7 +31,7 @@ pub record Stands (s : State) (gate : ℕ) (records : List (List ℕ)) : Type 0 
   pub whole : IsFront front records
   pub place : length front ≡ gate
 
-pub stands : (s : State) (log : Log) (records : List (List ℕ)) → IsAtRest s log records → Stands s log.gate records
+pub stands : (s : State) (log : Log) (records : List (List ℕ)) → IsAtRest s.disk log records → Stands s log.gate records
 stands s log records at_rest =
     let holds = records_hold s.disk.log.now records at_rest.only.records_are in
     record {
@@ -127,7 +127,7 @@ module _ (added : List ℕ) (records : List (List ℕ)) (gate : ℕ) (h0 : Histo
   pub while_opening : (h1 h2 : History) → StageLeaves h1 → h1 ≡ more h0 (staging gate added) → EachMoment (IsWriting TheLog gate (1 ∷ []) (now h1)) h1 h2 → EachMoment (LeavesLog P (now h0)) h0 h2
   while_opening h1 h2 leaves is run = moments_leave_then P h0 h1 h2 (while_staging h1 leaves) (moments_writing P gate (1 ∷ []) h1 h2 (gate_torn h1 is) run)
 
-  pub committed : (h1 h2 : History) (log : Log) → h1 ≡ more h0 (staging gate added) → h2 ≡ more h1 (Wrote TheLog gate (1 ∷ []) ∷ Synced TheLog ∷ []) → gate ≡ next_gate records → log.gate ≡ gate + (5 + length added) → IsAtRest (now h2) log (records ++ added ∷ [])
+  pub committed : (h1 h2 : History) (log : Log) → h1 ≡ more h0 (staging gate added) → h2 ≡ more h1 (Wrote TheLog gate (1 ∷ []) ∷ Synced TheLog ∷ []) → gate ≡ next_gate records → log.gate ≡ gate + (5 + length added) → IsAtRest (now h2).disk log (records ++ added ∷ [])
   committed h1 h2 log is synced here place =
       let part : (now h2).disk.log ≡ settled (written (now h1).disk.log.now gate (1 ∷ [])) = ap (λ h. (now h).disk.log) synced ∙ ap (λ (s : State). s.disk.log) (now-more h1 (Wrote TheLog gate (1 ∷ []) ∷ Synced TheLog ∷ [])) in
       let bytes : (now h2).disk.log.now ≡ stood.front ++ 1 ∷ new_part =

@@ -203,7 +203,7 @@ module _ (h0 h1 h2 : History) (reads : AllReadAnImage (now h0)) (synced : h1 ≡
     pub part5 : (h4 h5 : History) → h4 ≡ more h3 (Wrote Log 1 bytes ∷ Synced Log ∷ []) → h5 ≡ more h4 (Wrote Log 0 (1 ∷ []) ∷ Synced Log ∷ []) → (now h5).disk.log ≡ settled (begun log)
     part5 h4 h5 text opened = written_part 0 (1 ∷ []) (0 ∷ (head_text ++ 0 ∷ drop 17 log)) (begun log) h4 h5 (part4 h4 text) opened refl
 
-    pub begun_only : (h4 h5 : History) → h4 ≡ more h3 (Wrote Log 1 bytes ∷ Synced Log ∷ []) → h5 ≡ more h4 (Wrote Log 0 (1 ∷ []) ∷ Synced Log ∷ []) → HasOnly (now h5) []
+    pub begun_only : (h4 h5 : History) → h4 ≡ more h3 (Wrote Log 1 bytes ∷ Synced Log ∷ []) → h5 ≡ more h4 (Wrote Log 0 (1 ∷ []) ∷ Synced Log ∷ []) → HasOnly (now h5).disk []
     begun_only h4 h5 text opened =
         let part = part5 h4 h5 text opened in
         let bytes_now : (now h5).disk.log.now ≡ begun log = ap (λ (p : PartState). p.now) part in

@@ -43,7 +43,7 @@ module _ (h0 h1 : History) (synced : h1 ≡ more h0 (Synced TheLog ∷ Synced Pa
     pub none_read : (answer : Option Opened) → answer ≡ None → records_from (length bytes) (drop 16 bytes) ≡ option_map records_in answer → records_of log ≡ None
     none_read answer is read = all_read None (read ∙ ap (option_map records_in) is)
 
-    pub rests : (h3 : History) (opened : Opened) → h3 ≡ h2 → records_of log ≡ Some (records_in opened) → opened.log.gate ≡ next_gate (records_in opened) → IsAtRest (now h3) opened.log (records_in opened)
+    pub rests : (h3 : History) (opened : Opened) → h3 ≡ h2 → records_of log ≡ Some (records_in opened) → opened.log.gate ≡ next_gate (records_in opened) → IsAtRest (now h3).disk opened.log (records_in opened)
     rests h3 opened last read gate =
         let part : (now h3).disk.log ≡ settled log = ap (λ h. (now h).disk.log) (last ∙ same) ∙ part1 in
         let now_is : (now h3).disk.log.now ≡ log = ap (λ (p : PartState). p.now) part in

@@ -15,10 +15,10 @@ impl Log {
     pub fn commit<W: World>(&mut self, world: &mut W, added: &[u8]) -> Result<(), Failed>
         requires mounted { IsSome (W.mounted world.old) }
         requires short { length added.now < 2 ^ 32 }
-        ensures moments { IsTrue W.tells → (records : List (List ℕ)) → IsAtRest (now (W.history world.old)) self.old records →
+        ensures moments { IsTrue W.tells → (records : List (List ℕ)) → IsAtRest (now (W.history world.old)).disk self.old records →
             EachMoment (LeavesLog (HasEither records added.now) (now (W.history world.old))) (W.history world.old) (W.history world.new) }
-        ensures committed { IsTrue W.tells → (records : List (List ℕ)) → IsAtRest (now (W.history world.old)) self.old records →
-            OnOk result (IsAtRest (now (W.history world.new)) self.new (records ++ added.now ∷ [])) }
+        ensures committed { IsTrue W.tells → (records : List (List ℕ)) → IsAtRest (now (W.history world.old)).disk self.old records →
+            OnOk result (IsAtRest (now (W.history world.new)).disk self.new (records ++ added.now ∷ [])) }
         ensures length { OnOk result (length_of self.new ≡ length_of self.old + 5 + length added.now) }
         ensures kept { OnErr result (self.new ≡ self.old) }
         ensures same { W.mounted world.new ≡ W.mounted world.old }

@@ -23,7 +23,7 @@ pub fn create<W: World>(world: &mut W) -> Result<(), CreateErr>
     requires mounted { IsSome (W.mounted world.old) }
     ensures moments { IsTrue W.tells → ((log : List ℕ) → IsImage (now (W.history world.old)).disk.log log → MayBegin log) →
         EachMoment (LeavesLog IsBegun (now (W.history world.old))) (W.history world.old) (W.history world.new) }
-    ensures made { IsTrue W.tells → OnOk result (HasOnly (now (W.history world.new)) []) }
+    ensures made { IsTrue W.tells → OnOk result (HasOnly (now (W.history world.new)).disk []) }
     ensures bytes { IsTrue W.tells → OnOk result ((now (W.history world.new)).disk.log.now ≡ begun (now (W.history world.old)).disk.log.now) }
 
     // Each refusal comes exactly where it says, but for faults.

@@ -18,3 +18,6 @@ pub use log::Log;
 pub use open_err::OpenErr;
 pub use opened::Opened;
 pub use opening::open;
+
+#[cfg(test)]
+mod tests;

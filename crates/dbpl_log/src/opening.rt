@@ -20,7 +20,7 @@ use std::alloc::Global;
 pub fn open<W: World>(alloc: Global, world: &mut W) -> Result<Opened, OpenErr>
     requires mounted { IsSome (W.mounted world.old) }
     ensures records { IsTrue W.tells → IfOk result (λ opened. records_of (now (W.history world.old)).disk.log.now ≡ Some (records_in opened)) }
-    ensures at_rest { IsTrue W.tells → IfOk result (λ opened. IsAtRest (now (W.history world.new)) opened.log (records_in opened)) }
+    ensures at_rest { IsTrue W.tells → IfOk result (λ opened. IsAtRest (now (W.history world.new)).disk opened.log (records_in opened)) }
     ensures stood { IsTrue W.tells → (records : List (List ℕ)) → ((log : List ℕ) → IsImage (now (W.history world.old)).disk.log log → records_of log ≡ Some records) → IfOk result (λ opened. records_in opened ≡ records) }
     ensures moments { IsTrue W.tells → EachMoment (LeavesLog (IsImage (now (W.history world.old)).disk.log) (now (W.history world.old))) (W.history world.old) (W.history world.new) }
 
