@@ -10,7 +10,7 @@ use Rattle.dbpl_world.specs.Images.{IsImage}
 -- the database of the last record, or this one where there are none; each record has to spell a database
 abbrev pub newest : List Bound → List (List ℕ) → Option (List Bound)
 newest database [] = Some database
-newest database (record ∷ records) = option_and_then (λ next. newest next records) (database_of record)
+newest database (first ∷ others) = option_and_then (λ next. newest next others) (database_of first)
 
 -- THE database that these parts stand for, if there is one. Nothing is kept in the pages.
 unfoldable pub stands : List ℕ → List ℕ → Option (List Bound)
@@ -24,3 +24,9 @@ pub record LeavesDatabase (P : Option (List Bound) → Type 0) (old s : State) :
 -- the one database or the other
 abbrev pub IsEither : List Bound → List Bound → Option (List Bound) → Type 0
 IsEither database other found = (found ≡ Some database) ⊎ (found ≡ Some other)
+
+-- What a stop leaves of the mounted store is what it could leave at old. Of the world nothing but its disk has changed.
+pub record LeavesOld (old s : State) : Type 0 where
+  pub log : (left : List ℕ) → IsImage s.disk.log left → IsImage old.disk.log left
+  pub pages : (left : List ℕ) → IsImage s.disk.pages left → IsImage old.disk.pages left
+  pub others : s ≡ record old { disk = s.disk }

@@ -1,5 +1,5 @@
 //! A commit: the log gets the database as one more record.
-ghost use Rattle.std.specs.Prelude.{◌≡◌, IsTrue, IsSome, OnErr, OnOk, not};
+ghost use Rattle.std.specs.Prelude.{◌≡◌, false, IsTrue, IsSome, OnErr, OnOk};
 ghost use Rattle.dbpl_store.specs.Stands.{IsEither, LeavesDatabase};
 ghost use Rattle.dbpl_store.specs.Stores.{IsOpen, committed_of, database_in, is_running};
 ghost use Rattle.dbpl_world.specs.Counts.{OnlyDiskFaults, Rose};

@@ -3,7 +3,9 @@
 
 mod changes;
 mod commit;
+mod newest;
 mod spelled;
 mod store;
 
+pub use dbpl_log::{CreateErr, create};
 pub use store::Store;

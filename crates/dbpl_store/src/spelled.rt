@@ -1,6 +1,6 @@
 //! What a commit writes, made before it.
 ghost use Rattle.std.specs.Prelude.{IfOk};
-ghost use Rattle.dbpl_store.specs.Stores.{IsSpelt};
+ghost use Rattle.dbpl_store.specs.Kept.{IsSpelt};
 
 use dbpl_base::Memory;
 use dbpl_database::write_database;

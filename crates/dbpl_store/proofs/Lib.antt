@@ -1,0 +1,3 @@
+pub mod Changing
+pub mod Committing
+pub mod Standing
