@@ -112,9 +112,10 @@ pub bound-added :
     after ≡ insert database at (empty_bound field) → after ≡ with_bound (empty_bound field) database →
     Binds field database after
     × ((x : Bound) × (slice_get after at ≡ Some x) × (x.name ≡ field.name) × (x.kind ≡ field.kind))
-bound-added field database after at none within put with_it =
-    (inr (none, with_it),
-    (empty_bound field, ap (λ (xs : List Bound). slice_get xs at) put ∙ got-again database at (empty_bound field) within, refl, refl))
+bound-added field database after at none within put with_it = (
+  inr (none, with_it),
+  (empty_bound field, ap (λ (xs : List Bound). slice_get xs at) put ∙ got-again database at (empty_bound field) within, refl, refl),
+)
 
 pub added-sound :
     (field : Field) (database after : List Bound) → is_kept field.name field.kind ≡ true →

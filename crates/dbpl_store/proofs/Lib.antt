@@ -1,3 +1,4 @@
 pub mod Changing
 pub mod Committing
+pub mod Openings
 pub mod Standing

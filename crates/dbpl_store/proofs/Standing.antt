@@ -1,5 +1,6 @@
 -- What the records of a log stand for.
-use Rattle.std.proofs.Common.{◌≡◌, ◌+◌, ◌<◌, ◌⊎◌, inl, inr, ℕ, zero, suc, true, List, [], ◌∷◌, ◌++◌, map, length, drop, get_or, Option, Some, None, refl, sym, ap, subst, ◌∙◌, add-one, drop-cons}
+use Rattle.std.proofs.Common.{◌≡◌, ◌+◌, ◌<◌, ◌≤◌, ℕ, zero, suc, true, List, [], ◌∷◌, ◌++◌, map, length, drop, get_or, Option, Some, None, refl, sym, ap, subst, ◌∙◌, add-one, drop-cons}
+use Rattle.std.proofs.lemmas.List.{drop_all}
 use Rattle.std.specs.Option.{option_and_then, unwrap_or}
 use Rattle.dbpl_database.proofs.DatabaseLaws.{database_of-completes}
 use Rattle.dbpl_database.specs.Databases.{is_database}
@@ -17,6 +18,26 @@ pub newest-step :
     newest database (map bytes (drop i records))
     ≡ option_and_then (λ next. newest next (map bytes (drop (i + 1) records))) (database_of (bytes one))
 newest-step bytes database records i one within e = rw (drop-cons records i one, ← e, add-one) refl
+
+-- where one of them spells none, there is none
+pub newest-stops :
+    {X : Type 0} (bytes : X → List ℕ) (database : List Bound) (records : List X) (i : ℕ) (one : X) → i < length records →
+    one ≡ get_or records i one → database_of (bytes one) ≡ None → newest database (map bytes (drop i records)) ≡ None
+newest-stops bytes database records i one within e none = newest-step bytes database records i one within e ∙ rw none refl
+
+-- the next of them was read
+pub newest-read :
+    {X : Type 0} (bytes : X → List ℕ) (database next : List Bound) (records : List X) (i : ℕ) (one : X) → i < length records →
+    one ≡ get_or records i one → database_of (bytes one) ≡ Some next →
+    newest next (map bytes (drop (i + 1) records)) ≡ newest database (map bytes (drop i records))
+newest-read bytes database next records i one within e read =
+    sym (newest-step bytes database records i one within e ∙ rw read refl)
+
+-- all were read
+pub newest-done :
+    {X : Type 0} (bytes : X → List ℕ) (database : List Bound) (records : List X) (i : ℕ) → length records ≤ i →
+    newest database (map bytes (drop i records)) ≡ Some database
+newest-done bytes database records i past = rw (drop_all i records past) refl
 
 -- one record more
 pub newest-more :

@@ -17,7 +17,7 @@ impl Store {
         requires running { IsTrue (is_running self.old) }
         ensures moments { IsTrue W.tells → IsOpen (now (W.history world.old)) self.old →
             EachMoment (LeavesDatabase (IsEither (committed_of self.old) (database_in self.old)) (now (W.history world.old)))
-                (W.history world.old) (W.history world.new) }
+            (W.history world.old) (W.history world.new) }
         ensures open { IsTrue W.tells → IsOpen (now (W.history world.old)) self.old →
             OnOk result (IsOpen (now (W.history world.new)) self.new) }
         ensures committed { OnOk result (committed_of self.new ≡ database_in self.old) }

@@ -4,8 +4,12 @@
 mod changes;
 mod commit;
 mod newest;
+mod opening;
 mod spelled;
 mod store;
+mod store_err;
 
 pub use dbpl_log::{CreateErr, create};
+pub use opening::open;
 pub use store::Store;
+pub use store_err::StoreErr;

@@ -9,9 +9,11 @@ pub returns-then-not-same_type-clause-bound : goal.returns-then-not-same_type-cl
 returns-then-not-same_type-clause-bound c =
     let got : slice_get c.args.self.now.database c.in-Some.at ≡ Some c.index-as_slice-at.result =
     slice_get_read c.args.self.now.database _ c.in-Some.at c.index-as_slice-at.result refl (search rules) (search rules)
-    in
-    (differs-there c.args.rel.now c.args.self.now.database c.in-Some.at c.index-as_slice-at.result c.same_type.result
-    (search rules) got (λ e. c.same_type.ensures.1 (rw (← c.index-as_slice-at.is) e)) (search rules), refl)
+    in (
+      differs-there c.args.rel.now c.args.self.now.database c.in-Some.at c.index-as_slice-at.result c.same_type.result
+          (search rules) got (λ e. c.same_type.ensures.1 (rw (← c.index-as_slice-at.is) e)) (search rules),
+      refl,
+    )
 
 pub returns-in-Some-clause-bound : goal.returns-in-Some-clause-bound
 returns-in-Some-clause-bound c =

@@ -61,8 +61,7 @@ returns-in-Ok-clause-open g c = λ told stood.
     kept-some (λ bytes. bytes.items) c.args.self.now.stored.items c.args.self.now.database c.args.self.now.changed
     c.in-Some.changed c.args.self.now.kept (sym c.take.ensures.value ∙ c.in-Some.is)
     in
-    let read = spelt-read c.args.self.now.database c.in-Some.changed.items c.args.self.now.sound spelt in
-    (
+    let read = spelt-read c.args.self.now.database c.in-Some.changed.items c.args.self.now.sound spelt in (
       stood.0 ++ c.in-Some.changed.items ∷ [],
       rw (← c.as_slice-3.ensures.value) (c.in-Ok.ensures.committed told stood.0 stood.1),
       newest-more [] stood.0 (committed_of c.args.self.now) c.in-Some.changed.items c.args.self.now.database stood.2 read
