@@ -1,9 +1,10 @@
 use Rattle.std.proofs.Common.{◌≡◌, ◌<◌, ◌≤◌, min, length, get_or, arith}
 use Rattle.dbpl_value.proofs.Pairs.{take-zip-all}
 use Rattle.dbpl_value.specs.Types.{keys_of}
+use Rattle.dbpl_codec.proofs.Growing.{begins-behind}
 use Rattle.dbpl_codec.proofs.ValueBytes.{pairs-more}
 use Rattle.dbpl_codec.specs.KeySpelling.{component_bytes, key_type}
-use Rattle.dbpl_codec.proofs.keys.key_bytes.Goals as goal
+use Rattle.dbpl_codec.proofs.keys.append_key.Goals as goal
 
 pub loop-i-preserved : goal.loop-i-preserved
 loop-i-preserved c =
@@ -17,9 +18,14 @@ loop-i-preserved c =
     c.index-key-i.is c.loop-i.invariant
     (rw (← c.element_of.ensures, ← c.fields_of-fields.ensures, ← c.type_named.ensures) c.in_ok-component.ensures.ok)
 
-pub returns : goal.returns
-returns c =
+pub returns-clause-ok : goal.returns-clause-ok
+returns-clause-ok c =
     let end : min (length (keys_of c.args.t.now)) (length c.args.key.now) ≤ c.loop-i.i =
     rw (← c.keys_of-keys.ensures) (omega arith)
     in
-    record { ok = rw (← take-zip-all (keys_of c.args.t.now) c.args.key.now c.loop-i.i end) c.loop-i.invariant }
+    rw (← take-zip-all (keys_of c.args.t.now) c.args.key.now c.loop-i.i end) c.loop-i.invariant
+
+pub returns-in_err-component-clause-begins : goal.returns-in_err-component-clause-begins
+returns-in_err-component-clause-begins c =
+    begins-behind c.component.new.out.items c.loop-i.out.items c.args.out.now.items _ c.loop-i.invariant
+    c.component.ensures.begins

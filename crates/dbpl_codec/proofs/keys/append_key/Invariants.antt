@@ -2,7 +2,7 @@ use Rattle.std.proofs.Common.{◌≡◌, ◌++◌, take}
 use Rattle.std.specs.List.{flat_map, zip}
 use Rattle.dbpl_value.specs.Types.{keys_of}
 use Rattle.dbpl_codec.specs.KeySpelling.{component_bytes, key_type}
-use Rattle.dbpl_codec.proofs.keys.key_bytes.Given as goal
+use Rattle.dbpl_codec.proofs.keys.append_key.Given as goal
 
 abbrev pub invariant-loop-i : goal.invariant-loop-i
 invariant-loop-i l =
