@@ -3,13 +3,15 @@
 
 mod changes;
 mod commit;
+mod creation;
 mod newest;
 mod opening;
 mod spelled;
 mod store;
 mod store_err;
 
-pub use dbpl_log::{CreateErr, create};
+pub use creation::create;
+pub use dbpl_log::CreateErr;
 pub use opening::open;
 pub use store::Store;
 pub use store_err::StoreErr;
