@@ -16,3 +16,6 @@ pub mod WholeLaws
 pub mod TypeWhole
 pub mod Scalars
 pub mod SizeLaw
+pub mod ByteOrder
+pub mod ComponentOrder
+pub mod KeyByteOrder

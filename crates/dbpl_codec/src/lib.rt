@@ -18,7 +18,7 @@ mod values;
 
 pub use descriptors::read_type;
 pub use keys::key_bytes;
-pub use laws::{coded_size, one_type, one_value};
+pub use laws::{coded_size, key_byte_order, one_type, one_value};
 pub use read_err::ReadErr;
 pub use reads::read_value;
 pub use types::write_type;

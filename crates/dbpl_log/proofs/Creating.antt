@@ -32,6 +32,9 @@ text_there (byte ∷ rest) head = cc
 no_short_text : (log : List ℕ) → length log < 16 → HasText log → ⊥
 no_short_text log short text = omega (arith, short, ap length text, length-take 15 (drop 1 log), length-drop 1 log, length_text)
 
+pub nothing_begins : MayBegin []
+nothing_begins = record { no_store = λ head. no_short_text [] (omega arith) (text_there [] head); harmless = inl (no_short_text [] (omega arith)) }
+
 empty_opened : (rest : List ℕ) → records_of (1 ∷ (head_text ++ 0 ∷ rest)) ≡ Some []
 empty_opened rest = holds_records (1 ∷ (head_text ++ 0 ∷ rest)) [] (record {
   front = open_head;

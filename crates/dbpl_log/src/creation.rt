@@ -18,7 +18,7 @@ use dbpl_world::{Failed, Part, World, write_and_sync};
 /// What is longer is no unfinished store.
 const LONGEST_UNKNOWN: u64 = 4096;
 
-/// Makes a store without records. After a stop within it or a failure it may be called again.
+/// Makes a store without records. After a stop within it, it may be called again.
 pub fn create<W: World>(world: &mut W) -> Result<(), CreateErr>
     requires mounted { IsSome (W.mounted world.old) }
     ensures moments { IsTrue W.tells → ((log : List ℕ) → IsImage (now (W.history world.old)).disk.log log → MayBegin log) →

@@ -5,6 +5,7 @@ mod commit;
 mod create_err;
 mod creation;
 mod head;
+mod laws;
 mod log;
 mod open_err;
 mod opened;
@@ -14,6 +15,7 @@ mod syncs;
 
 pub use create_err::CreateErr;
 pub use creation::create;
+pub use laws::{nothing_may_begin, records_are_held};
 pub use log::Log;
 pub use open_err::OpenErr;
 pub use opened::Opened;

@@ -1,6 +1,7 @@
 //! Texts with their tokens, and texts that break off, with ample memory.
 use crate::{ScanErr, scan};
 use dbpl_base::{Lexeme, Place};
+use std::alloc::Global;
 use std::test::Fail;
 
 /// What a lexeme is to be.
@@ -162,4 +163,43 @@ fn breaks_off(rt: HostRuntime) {
         let answer = scan(rt.alloc(), 0, text).map(|tokens| tokens.len());
         assert_eq!(rt; answer, Err(ScanErr::Bad(place)), "{text:?}");
     }
+}
+
+/// Pieces, and how often each of them stands in a text.
+type Pieces = [(&'static [u8], usize); 3];
+
+/// The text of these pieces.
+fn text_of(alloc: Global, pieces: Pieces) -> Result<Vec<u8>, Fail> {
+    let mut text = Vec::new(alloc);
+    for (piece, count) in pieces {
+        for _ in 0..count {
+            text.extend_from_slice(piece)?;
+        }
+    }
+    Ok(text)
+}
+
+/// Texts of about 1 MiB, and how many tokens each has, 0 where it breaks off. A scanner that goes over a text again
+/// for each token or each comment does not end in time; ours takes about a second.
+static LONG: [(Pieces, usize); 5] = [
+    (
+        [(b"x := 0FFH + y; (* c *)\n", 45_000), (b"", 0), (b"", 0)],
+        270_001,
+    ),
+    ([(b"(*", 262_000), (b"'", 1), (b"*)", 262_000)], 1),
+    ([(b"'", 1), (b"a", 1_048_574), (b"'", 1)], 2),
+    ([(b" \n", 524_287), (b"1", 1), (b"", 0)], 2),
+    ([(b"(**)", 262_143), (b"(*", 1), (b"", 0)], 0),
+];
+
+#[test]
+fn long_texts_take_linear_time(rt: HostRuntime) -> Result<(), Fail> {
+    let alloc = rt.alloc();
+    for (pieces, count) in LONG {
+        let text = text_of(alloc, pieces)?;
+        assert!(rt; text.len() < 1_048_577);
+        let tokens = scan(alloc, 0, text.as_slice()).map_or(0, |tokens| tokens.len());
+        assert_eq!(rt; tokens, count);
+    }
+    Ok(())
 }
