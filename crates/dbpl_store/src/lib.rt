@@ -13,3 +13,6 @@ pub use dbpl_log::{CreateErr, create};
 pub use opening::open;
 pub use store::Store;
 pub use store_err::StoreErr;
+
+#[cfg(test)]
+mod tests;
