@@ -15,3 +15,6 @@ pub use laws::one_database;
 pub use reading::read_database;
 pub use relations::put_relation;
 pub use writing::write_database;
+
+#[cfg(test)]
+mod tests;

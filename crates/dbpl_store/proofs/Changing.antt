@@ -1,19 +1,21 @@
 -- What a change keeps of an open store.
-use Rattle.std.proofs.Common.{◌≡◌, ◌≤◌, ◌<◌, ℕ, zero, suc, Bool, true, false, if◌then◌else◌, List, [], ◌∷◌, length, slice_get, Option, Some, None, IsSome, IfSome, inl, inr, refl, sym, ap, subst, ◌∙◌, arith, insert, remove}
-use Rattle.std.proofs.lemmas.Option.{slice_get_past}
+use Rattle.std.proofs.Common.{◌≡◌, ◌≤◌, ◌<◌, ◌&&◌, ℕ, zero, suc, Bool, true, false, if◌then◌else◌, List, [], ◌∷◌, length, get_or, slice_get, Option, Some, None, IsSome, IfSome, inl, inr, refl, sym, ap, subst, ◌∙◌, arith, insert, remove}
+use Rattle.std.proofs.lemmas.Option.{get_or_from_slice_get, slice_get_past}
 use Rattle.std.proofs.lemmas.Bool.{cases_lt}
 use Rattle.std.proofs.lemmas.Slice.Eq.{bytes_eq-Decides}
-use Rattle.std.specs.List.{find}
+use Rattle.std.specs.Cmp.{first_so, second_so}
+use Rattle.std.specs.List.{find, list_all}
 use Rattle.std.specs.Option.{is_some, option_and_then, option_map, option_map_or, unwrap_or}
 use Rattle.dbpl_codec.proofs.ByteLaws.{some_is}
 use Rattle.dbpl_database.proofs.Holding.{get_set}
 use Rattle.dbpl_database.proofs.Kept.{added_kept, held_kept}
 use Rattle.dbpl_database.specs.Binding.{Binds, Differs, bound_named, empty_bound, holding, with_bound, with_relation}
-use Rattle.dbpl_database.specs.Databases.{are_small, is_database, is_kept}
+use Rattle.dbpl_database.specs.Databases.{are_small, is_bound, is_database, is_kept}
 use Rattle.dbpl_database.specs.Reading.{database_of}
 use Rattle.dbpl_database.specs.Spelling.{database_bytes}
 use Rattle.dbpl_store.proofs.Standing.{committed-is, spelt-read}
 use Rattle.dbpl_store.specs.Kept.{IsKept, IsSpelt}
+use Rattle.dbpl_value.proofs.ValuesLemmas.{list_all-slice_get}
 use Rattle.dbpl_value.specs.Types.{is_same_name}
 use Rattle.dbpl_value.specs.Values.{is_of}
 use Rattle.dbpl_value.specs.declared.bound.Bound.{Bound}
@@ -151,11 +153,11 @@ held-sound database after at relation some fits sound put =
     in
     rw put (held_kept database at bound.0 relation bound.1 holds.0 holds.1 sound)
 
-pub still-named :
+pub still-held :
     (database after : List Bound) (at : ℕ) (relation : Value) → IsSome (slice_get database at) →
     after ≡ with_relation relation at database →
-    option_map (λ (b : Bound). b.name) (slice_get after at) ≡ option_map (λ (b : Bound). b.name) (slice_get database at)
-still-named database after at relation some put =
+    slice_get after at ≡ option_map (holding relation) (slice_get database at)
+still-held database after at relation some put =
     let bound = bound-at database at some in
     let held : slice_get after at ≡ Some (holding relation bound.0) =
     ap (λ (xs : List Bound). slice_get xs at) (put ∙ rw bound.1 refl)
@@ -186,13 +188,29 @@ pub at-fits :
     IfSome (option_and_then (slice_get database) bound) P → IfSome (slice_get database at) P
 at-fits database bound at P e fits = subst (λ (b : Option ℕ). IfSome (option_and_then (slice_get database) b) P) e fits
 
-pub named-still :
+pub held-still :
     (database after : List Bound) (bound : Option ℕ) (at : ℕ) (relation : Value) → bound ≡ Some at →
     IsSome (option_and_then (slice_get database) bound) → after ≡ with_relation relation at database →
-    option_map (λ (b : Bound). b.name) (option_and_then (slice_get after) bound)
-    ≡ option_map (λ (b : Bound). b.name) (option_and_then (slice_get database) bound)
-named-still database after bound at relation e some put =
-    rw e (still-named database after at relation (at-bound database bound at e some) put)
+    option_and_then (slice_get after) bound ≡ option_map (holding relation) (option_and_then (slice_get database) bound)
+held-still database after bound at relation e some put =
+    rw e (still-held database after at relation (at-bound database bound at e some) put)
+
+-- the relation in the bound variable is one of its type
+pub whole-of :
+    (database items : List Bound) (bound : Option ℕ) (at : ℕ) (other : Bound) → bound ≡ Some at →
+    IsSome (option_and_then (slice_get database) bound) → items ≡ database → is_database database ≡ true →
+    IfSome (option_and_then (slice_get database) bound)
+    (λ b. (is_of b.kind (get_or items at other).rel ≡ true) × (are_small b.kind (get_or items at other).rel ≡ true))
+whole-of database items bound at other e some same sound =
+    let got = bound-at database at (at-bound database bound at e some) in
+    let b = got.0 in
+    let this = list_all-slice_get is_bound database at b (first_so (list_all is_bound database) _ sound) got.1 in
+    let there : get_or items at other ≡ b = rw same (get_or_from_slice_get database at b other got.1) in
+    rw (e, got.1, there) (
+    second_so (is_kept b.name b.kind) (is_of b.kind b.rel)
+    (first_so (is_kept b.name b.kind && is_of b.kind b.rel) (are_small b.kind b.rel) this),
+    second_so (is_kept b.name b.kind && is_of b.kind b.rel) (are_small b.kind b.rel) this,
+    )
 
 -- ---- taken back
 

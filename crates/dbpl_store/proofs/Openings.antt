@@ -51,6 +51,14 @@ opened-stood log pages records database (Ok store) has stood newer =
     some_is (committed_of store) database (sym (stands-for log pages records (committed_of store) has newer) ∙ stood)
 opened-stood log pages records database (Err e) has stood newer = tt
 
+-- the log as it was read stands for it
+pub opened-read :
+    (log pages : List ℕ) (records : List (List ℕ)) (result : Result Store StoreErr) → records_of log ≡ Some records →
+    IfOk result (λ store. newest [] records ≡ Some (committed_of store)) →
+    IfOk result (λ store. stands log pages ≡ Some (committed_of store))
+opened-read log pages records (Ok store) has newer = stands-for log pages records (committed_of store) has newer
+opened-read log pages records (Err e) has newer = tt
+
 abbrev failed : StoreErr → Result Store StoreErr
 failed e = Err e
 

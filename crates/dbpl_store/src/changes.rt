@@ -1,7 +1,7 @@
 //! What a transaction does to the database in memory.
 ghost use Rattle.std.specs.Prelude.{◌≡◌, false, IfOk, IfSome, IsSome, IsTrue, MatchBool, OnErr, OnOk, Some, true};
 ghost use Rattle.std.specs.Option.{option_map};
-ghost use Rattle.dbpl_database.specs.Binding.{Binds, Differs};
+ghost use Rattle.dbpl_database.specs.Binding.{Binds, Differs, holding};
 ghost use Rattle.dbpl_database.specs.Databases.{are_small, is_kept};
 ghost use Rattle.dbpl_store.specs.Stores.{IsBoundTo, bound_in, committed_of, database_in, is_running, with_bound_relation};
 ghost use Rattle.dbpl_value.specs.Values.{is_of};
@@ -63,6 +63,7 @@ impl Store {
     pub fn whole(&self) -> &Value
         requires bound { IsSome (bound_in self.now) }
         ensures whole { option_map (λ bound. bound.rel) (bound_in self.now) ≡ Some result.now }
+        ensures of { IfSome (bound_in self.now) (λ bound. IsTrue (is_of bound.kind result.now) × IsTrue (are_small bound.kind result.now)) }
     {
         match self.bound {
             Some(at) => &self.database.as_slice()[at].rel,
@@ -79,7 +80,8 @@ impl Store {
         ensures kept { OnErr result (database_in self.new ≡ database_in self.old) }
         ensures committed { committed_of self.new ≡ committed_of self.old }
         ensures running { is_running self.new ≡ true }
-        ensures bound { option_map (λ bound. bound.name) (bound_in self.new) ≡ option_map (λ bound. bound.name) (bound_in self.old) }
+        ensures held { OnOk result (bound_in self.new ≡ option_map (holding all) (bound_in self.old)) }
+        ensures bound { OnErr result (bound_in self.new ≡ bound_in self.old) }
         ensures log { self.new.log ≡ self.old.log }
     {
         let Some(at) = self.bound else { unreachable!() };

@@ -1,7 +1,7 @@
 //! A commit: the log gets the database as one more record.
 ghost use Rattle.std.specs.Prelude.{◌≡◌, false, IsTrue, IsSome, OnErr, OnOk};
 ghost use Rattle.dbpl_store.specs.Stands.{IsEither, LeavesDatabase};
-ghost use Rattle.dbpl_store.specs.Stores.{IsOpen, committed_of, database_in, is_running};
+ghost use Rattle.dbpl_store.specs.Stores.{IsOpen, bound_in, committed_of, database_in, is_running};
 ghost use Rattle.dbpl_world.specs.Counts.{OnlyDiskFaults, Rose};
 ghost use Rattle.dbpl_world.specs.History.{now};
 ghost use Rattle.dbpl_world.specs.Moments.{EachMoment};
@@ -23,6 +23,7 @@ impl Store {
         ensures committed { OnOk result (committed_of self.new ≡ database_in self.old) }
         ensures database { database_in self.new ≡ database_in self.old }
         ensures ended { is_running self.new ≡ false }
+        ensures bound { bound_in self.new ≡ bound_in self.old }
         ensures idle { database_in self.old ≡ committed_of self.old → (world.new ≡ world.old) }
         ensures same { W.mounted world.new ≡ W.mounted world.old }
         ensures counts { OnlyDiskFaults (W.counts world.old) (W.counts world.new) }

@@ -15,3 +15,6 @@ pub use dbpl_log::CreateErr;
 pub use opening::open;
 pub use store::Store;
 pub use store_err::StoreErr;
+
+#[cfg(test)]
+mod tests;

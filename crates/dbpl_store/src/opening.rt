@@ -27,6 +27,8 @@ pub fn open<W: World>(alloc: Global, world: &mut W) -> Result<Store, StoreErr>
     ensures stood { IsTrue W.tells → (database : List Bound) →
         ((log pages : List ℕ) → IsImage (now (W.history world.old)).disk.log log → IsImage (now (W.history world.old)).disk.pages pages → stands log pages ≡ Some database) →
         IfOk result (λ store. committed_of store ≡ database) }
+    ensures read { IsTrue W.tells → IfOk result (λ store.
+        stands (now (W.history world.old)).disk.log.now (now (W.history world.old)).disk.pages.now ≡ Some (committed_of store)) }
     ensures open { IsTrue W.tells → IfOk result (IsOpen (now (W.history world.new))) }
     ensures database { IfOk result (λ store. database_in store ≡ committed_of store) }
     ensures still { IfOk result (λ store. (is_running store ≡ false) × (bound_in store ≡ None)) }

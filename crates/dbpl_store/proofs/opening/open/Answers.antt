@@ -1,7 +1,7 @@
 use Rattle.std.proofs.Common.{◌≡◌, Err, ap, refl, sym, ◌∙◌}
 use Rattle.dbpl_log.proofs.RecordLaws.{records_head}
 use Rattle.dbpl_log.specs.Rest.{records_in}
-use Rattle.dbpl_store.proofs.Openings.{err_is, log-damaged, opened-damaged, opened-damaged_where, opened-stood, opening-moments}
+use Rattle.dbpl_store.proofs.Openings.{err_is, log-damaged, opened-damaged, opened-damaged_where, opened-read, opened-stood, opening-moments}
 use Rattle.dbpl_world.specs.History.{now}
 use Rattle.dbpl_store.proofs.opening.open.Goals as goal
 
@@ -12,6 +12,12 @@ returns-in-Ok-clause-stood g c = λ told database stood.
     opened-stood s.disk.log.now s.disk.pages.now (records_in c.in-Ok.opened) database c.store_of.result
     (c.in-Ok.ensures.records told) (stood s.disk.log.now s.disk.pages.now reads.disk.log reads.disk.pages)
     c.store_of.ensures.newest
+
+pub returns-in-Ok-clause-read : goal.returns-in-Ok-clause-read
+returns-in-Ok-clause-read g c = λ told.
+    let s = now (g.W.World.history c.args.world.now) in
+    opened-read s.disk.log.now s.disk.pages.now (records_in c.in-Ok.opened) c.store_of.result
+    (c.in-Ok.ensures.records told) c.store_of.ensures.newest
 
 pub returns-in-Ok-clause-moments : goal.returns-in-Ok-clause-moments
 returns-in-Ok-clause-moments g c = λ told.

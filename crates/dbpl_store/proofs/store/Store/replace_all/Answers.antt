@@ -1,4 +1,4 @@
-use Rattle.dbpl_store.proofs.Changing.{at-bound, at-fits, held-sound, named-still, still-within}
+use Rattle.dbpl_store.proofs.Changing.{at-bound, at-fits, held-sound, held-still, still-within}
 use Rattle.dbpl_store.proofs.store.Store.replace_all.Goals as goal
 
 pub invariant_of-self : goal.invariant_of-self
@@ -20,7 +20,7 @@ put_relation-requires c =
     still-within c.args.self.now.database c.put_relation-before.new.database c.in-Some.at c.args.all
     (at-bound c.args.self.now.database c.args.self.now.bound c.in-Some.at c.in-Some.is c.requires.bound) c.put_relation-before.ensures.put
 
-pub returns-in-Ok-clause-bound : goal.returns-in-Ok-clause-bound
-returns-in-Ok-clause-bound c =
-    named-still c.args.self.now.database c.put_relation-before.new.database c.args.self.now.bound c.in-Some.at c.args.all
+pub returns-in-Ok-clause-held : goal.returns-in-Ok-clause-held
+returns-in-Ok-clause-held c =
+    held-still c.args.self.now.database c.put_relation-before.new.database c.args.self.now.bound c.in-Some.at c.args.all
     c.in-Some.is c.requires.bound c.put_relation-before.ensures.put
