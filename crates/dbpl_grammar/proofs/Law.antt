@@ -1,6 +1,6 @@
 -- What is proved of each reading function: it reads what is spelled, what it reads was spelled so, and what it answers
 -- rests on the tokens up to the first one left.
-use Rattle.std.proofs.Common.{◌≡◌, ℕ, ◌≤◌, Bool, true, false, List, [], ◌∷◌, ◌++◌, length, Result, Ok, Err}
+use Rattle.std.proofs.Common.{◌≡◌, ℕ, ◌≤◌, Bool, true, false, List, ◌∷◌, ◌++◌, length, Result, Ok, Err}
 use Rattle.dbpl_base.specs.declared.lexeme.Lexeme.{Lexeme}
 use Rattle.dbpl_base.specs.declared.token.Token.{Token}
 use Rattle.dbpl_grammar.specs.Local.{Mark, Meets}

@@ -1,7 +1,8 @@
 -- Sets of lexemes: what is decided of them by computing holds of every lexeme.
-use Rattle.std.proofs.Common.{◌≡◌, ℕ, Bool, true, false, not, ◌==◌, ◌&&◌, ◌||◌, List, [], ◌∷◌, ◌++◌, refl, sym, ap, ap₂, ◌∙◌, true≢false, if◌then◌else◌}
-use Rattle.std.specs.List.{list_all, list_any}
-use Rattle.std.proofs.lemmas.Bool.{and_parts, and_from, or_cases, eqb-true}
+use Rattle.std.proofs.Common.{◌≡◌, ℕ, Bool, true, false, not, ◌==◌, ◌&&◌, ◌||◌, List, [], ◌∷◌, ◌++◌, refl, sym, ap, ap₂, ◌∙◌, true≢false, inl, inr, arith}
+use Rattle.std.proofs.lemmas.Bool.Decides.{nat_tests}
+use Rattle.std.specs.List.{list_all}
+use Rattle.std.proofs.lemmas.Bool.{and_parts, or_cases, eqb-true}
 use Rattle.dbpl_base.specs.declared.lexeme.Lexeme.{Lexeme}
 use Rattle.dbpl_base.specs.declared.lexeme.Lexeme.TheVariants.{Ident, Number, CharCode, Text, Reserved, Sign, Finish}
 use Rattle.dbpl_grammar.specs.Reading.{among, kind_of, like}
@@ -26,13 +27,13 @@ is_fixed Finish = true
 
 pub like_kinds : (one other : Lexeme) → like one other ≡ true → ((kind_of one).0 ≡ (kind_of other).0) × ((kind_of one).1 ≡ (kind_of other).1)
 like_kinds one other e =
-    let both = and_parts ((kind_of one).0 == (kind_of other).0) ((kind_of one).1 == (kind_of other).1) e in
-    (eqb-true (kind_of one).0 (kind_of other).0 both.0, eqb-true (kind_of one).1 (kind_of other).1 both.1)
+    let both = and_parts ((kind_of other).0 == (kind_of one).0) ((kind_of other).1 == (kind_of one).1) e in
+    (sym (eqb-true (kind_of other).0 (kind_of one).0 both.0), sym (eqb-true (kind_of other).1 (kind_of one).1 both.1))
 
 pub like_same : (one other third : Lexeme) → like one other ≡ true → like third one ≡ like third other
 like_same one other third e =
     let kinds = like_kinds one other e in
-    ap₂ (λ (kind row : ℕ). (kind_of third).0 == kind && (kind_of third).1 == row) kinds.0 kinds.1
+    ap₂ (λ (kind row : ℕ). kind == (kind_of third).0 && row == (kind_of third).1) kinds.0 kinds.1
 
 pub among_same : (set : List Lexeme) (one other : Lexeme) → like one other ≡ true → among set one ≡ among set other
 among_same [] one other e = refl

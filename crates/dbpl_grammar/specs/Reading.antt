@@ -1,5 +1,5 @@
 -- What a function reads at the front of a list of tokens, and how such functions are put together.
-use Rattle.std.specs.Prelude.{ℕ, zero, suc, Bool, false, true, ◌==◌, ◌&&◌, List, [], ◌∷◌, ◌++◌, length, Option, Some, None, Result, Ok, Err, if◌then◌else◌}
+use Rattle.std.specs.Prelude.{ℕ, zero, suc, Bool, false, ◌==◌, ◌&&◌, List, [], ◌∷◌, ◌++◌, length, Option, Some, None, Result, Ok, Err, if◌then◌else◌}
 use Rattle.std.specs.List.{list_any}
 use Rattle.dbpl_base.specs.declared.lexeme.Lexeme.{Lexeme}
 use Rattle.dbpl_base.specs.declared.lexeme.Lexeme.TheVariants.{Ident, Number, CharCode, Text, Reserved, Sign, Finish}
@@ -45,7 +45,7 @@ kind_of Finish = (6, 0)
 
 -- the same reserved word, the same sign, or two identifiers, two numbers, ..
 abbrev pub like : Lexeme → Lexeme → Bool
-like one other = (kind_of one).0 == (kind_of other).0 && (kind_of one).1 == (kind_of other).1
+like one other = (kind_of other).0 == (kind_of one).0 && (kind_of other).1 == (kind_of one).1
 
 abbrev pub among : List Lexeme → Lexeme → Bool
 among set lexeme = list_any (λ one. like one lexeme) set
@@ -75,6 +75,12 @@ found_or (Some found) tokens rest = Ok (found, rest)
 abbrev pub leaf : {A : Type 0} → (Lexeme → Option A) → Parser A
 leaf meaning [] = Err (wrong [])
 leaf meaning (token ∷ tokens) = found_or (meaning token.lexeme) (token ∷ tokens) tokens
+
+-- which of these has this lexeme
+abbrev pub by_table : {A : Type 0} → (A → Lexeme) → List A → Lexeme → Option A
+by_table lexeme_of [] lexeme = None
+by_table lexeme_of (one ∷ others) lexeme =
+    if like (lexeme_of one) lexeme then Some one else by_table lexeme_of others lexeme
 
 -- ---- one after another
 
