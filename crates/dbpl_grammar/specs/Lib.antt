@@ -1,6 +1,5 @@
 pub mod Expressions
 pub mod Lexemes
-pub mod Local
 pub mod Reading
 pub mod Statements
 pub mod Types

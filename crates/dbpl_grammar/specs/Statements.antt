@@ -3,8 +3,10 @@ use Rattle.std.specs.Prelude.{ℕ, zero, suc, List, [], ◌∷◌, ◌++◌, Opt
 use Rattle.dbpl_base.specs.declared.lexeme.Lexeme.{Lexeme}
 use Rattle.dbpl_base.specs.declared.place.Place.{Place}
 use Rattle.dbpl_grammar.specs.Expressions.{Inner, arguments, at_depth, designator, expr_first, ident, ident_first}
-use Rattle.dbpl_grammar.specs.Lexemes.{add_to, an_ident, bar, becomes, colon, comma, left_parenthesis, range_dots, remove_from, replace_in, semicolon, word_by, word_case, word_do, word_each, word_else, word_elsif, word_end, word_exit, word_for, word_if, word_in, word_loop, word_of, word_repeat, word_return, word_then, word_to, word_until, word_while}
+use Rattle.dbpl_grammar.specs.Lexemes.{an_ident}
 use Rattle.dbpl_grammar.specs.Reading.{Parser, ◌<$>◌, ◌⊗◌, after, by_table, closed, either, here, leaf, many, optional, too_deep}
+use Rattle.dbpl_tree.specs.Operators.{change_lexeme}
+use Rattle.dbpl_tree.specs.Words.{add_sign, bar, becomes_sign, colon, comma, ellipsis, left_parenthesis, remove_sign, replace_sign, semicolon, word_by, word_case, word_do, word_each, word_else, word_elsif, word_end, word_exit, word_for, word_if, word_in, word_loop, word_of, word_repeat, word_return, word_then, word_to, word_until, word_while}
 use Rattle.dbpl_tree.specs.declared.case.CaseOf.{CaseOf}
 use Rattle.dbpl_tree.specs.declared.case.CaseOf.TheVariants as cases
 use Rattle.dbpl_tree.specs.declared.case.Label.{Label}
@@ -21,18 +23,12 @@ use Rattle.dbpl_tree.specs.declared.statement.Statement.{Statement}
 use Rattle.dbpl_tree.specs.declared.statement.Statement.TheVariants as of_statement
 use Rattle.dbpl_tree.specs.declared.statements.StatementsOf.{StatementsOf}
 
-abbrev pub change_lexeme : ChangeOperator → Lexeme
-change_lexeme changes.Becomes = becomes
-change_lexeme changes.Add = add_to
-change_lexeme changes.Remove = remove_from
-change_lexeme changes.Replace = replace_in
-
 unfoldable pub change_of : Lexeme → Option ChangeOperator
 change_of =
     by_table change_lexeme (changes.Becomes ∷ changes.Add ∷ changes.Remove ∷ changes.Replace ∷ [])
 
 abbrev pub change_first : List Lexeme
-change_first = becomes ∷ add_to ∷ remove_from ∷ replace_in ∷ []
+change_first = becomes_sign ∷ add_sign ∷ remove_sign ∷ replace_sign ∷ []
 
 -- the words with which a statement begins that isn't a change, a call or empty
 abbrev pub statement_words : List Lexeme
@@ -51,7 +47,7 @@ statements_with statement =
 
 unfoldable pub label : Inner → Parser Label
 label inner =
-    (λ found. record { low = found.0; high = found.1 }) <$> (inner.expr ⊗ optional (range_dots ∷ []) (after range_dots inner.expr))
+    (λ found. record { low = found.0; high = found.1 }) <$> (inner.expr ⊗ optional (ellipsis ∷ []) (after ellipsis inner.expr))
 
 unfoldable pub case_with : {S : Type 0} → Inner → Parser (StatementsOf S) → Parser (CaseOf S)
 case_with inner statements =
@@ -118,7 +114,7 @@ pub data Loops : Type 0 where
 
 unfoldable pub counts : Inner → Parser (StatementsOf Statement) → Parser Loops
 counts inner statements =
-    (λ found. Counts found.0 found.1.0 found.1.1.0 found.1.1.1.0 found.1.1.1.1) <$> (ident ⊗ after becomes (inner.expr ⊗ after word_to (inner.expr ⊗ optional (word_by ∷ []) (after word_by inner.expr) ⊗ after word_do (closed statements word_end))))
+    (λ found. Counts found.0 found.1.0 found.1.1.0 found.1.1.1.0 found.1.1.1.1) <$> (ident ⊗ after becomes_sign (inner.expr ⊗ after word_to (inner.expr ⊗ optional (word_by ∷ []) (after word_by inner.expr) ⊗ after word_do (closed statements word_end))))
 
 unfoldable pub ranges : Inner → Parser (StatementsOf Statement) → Parser Loops
 ranges inner statements =

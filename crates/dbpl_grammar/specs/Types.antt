@@ -2,8 +2,9 @@
 use Rattle.std.specs.Prelude.{ℕ, zero, suc, List, [], ◌∷◌}
 use Rattle.dbpl_base.specs.declared.lexeme.Lexeme.{Lexeme}
 use Rattle.dbpl_grammar.specs.Expressions.{Inner, at_depth, ident_first, idents, qual}
-use Rattle.dbpl_grammar.specs.Lexemes.{an_ident, colon, comma, left_bracket, left_parenthesis, range_dots, right_bracket, right_parenthesis, semicolon, word_array, word_end, word_of, word_record, word_relation}
+use Rattle.dbpl_grammar.specs.Lexemes.{an_ident}
 use Rattle.dbpl_grammar.specs.Reading.{Parser, ◌<$>◌, ◌⊗◌, after, closed, either, here, many, too_deep}
+use Rattle.dbpl_tree.specs.Words.{colon, comma, ellipsis, left_bracket, left_parenthesis, right_bracket, right_parenthesis, semicolon, word_array, word_end, word_of, word_record, word_relation}
 use Rattle.dbpl_tree.specs.declared.type_tree.FieldsOf.{FieldsOf}
 use Rattle.dbpl_tree.specs.declared.type_tree.FieldsOf.TheVariants as fields_of
 use Rattle.dbpl_tree.specs.declared.type_tree.TypeTree.{TypeTree}
@@ -23,7 +24,7 @@ enumeration =
 
 unfoldable pub subrange : Inner → Parser TypeTree
 subrange inner =
-    (λ found. types.Subrange found.0 found.1.0 found.1.1) <$> (here ⊗ after left_bracket (inner.expr ⊗ after range_dots (closed inner.expr right_bracket)))
+    (λ found. types.Subrange found.0 found.1.0 found.1.1) <$> (here ⊗ after left_bracket (inner.expr ⊗ after ellipsis (closed inner.expr right_bracket)))
 
 unfoldable pub array : Parser TypeTree → Parser TypeTree
 array type =

@@ -4,10 +4,12 @@ use Rattle.dbpl_base.specs.declared.lexeme.Lexeme.{Lexeme}
 use Rattle.dbpl_base.specs.declared.lexeme.Lexeme.TheVariants.{Finish}
 use Rattle.dbpl_base.specs.declared.token.Token.{Token}
 use Rattle.dbpl_grammar.specs.Expressions.{aggregate, all_of, at_depth, ident, ident_first, idents, qual}
-use Rattle.dbpl_grammar.specs.Lexemes.{an_ident, colon, equals, full_stop, left_parenthesis, right_parenthesis, semicolon, word_begin, word_const, word_constructor, word_database, word_definition, word_end, word_for, word_from, word_implementation, word_import, word_in, word_module, word_procedure, word_selector, word_transaction, word_type, word_var}
+use Rattle.dbpl_grammar.specs.Lexemes.{an_ident}
 use Rattle.dbpl_grammar.specs.Reading.{Parser, Refused, ◌>>=◌, ◌<$>◌, ◌⊗◌, after, by_table, closed, either, flag, here, leaf, many, optional, wrong}
 use Rattle.dbpl_grammar.specs.Statements.{statements_at}
 use Rattle.dbpl_grammar.specs.Types.{type_at}
+use Rattle.dbpl_tree.specs.Operators.{routine_lexeme}
+use Rattle.dbpl_tree.specs.Words.{colon, equal_sign, full_stop, left_parenthesis, right_parenthesis, semicolon, word_begin, word_const, word_constructor, word_database, word_definition, word_end, word_for, word_from, word_implementation, word_import, word_in, word_module, word_procedure, word_selector, word_transaction, word_type, word_var}
 use Rattle.dbpl_tree.specs.declared.decl.Common.{Common}
 use Rattle.dbpl_tree.specs.declared.decl.Common.TheVariants as commons
 use Rattle.dbpl_tree.specs.declared.decl.ConstDecl.{ConstDecl}
@@ -53,10 +55,6 @@ unfoldable pub signature : Parser Signature
 signature =
     (λ found. record { params = found.0; result = found.1 }) <$> (params ⊗ optional (colon ∷ []) (after colon qual))
 
-abbrev pub routine_lexeme : RoutineWord → Lexeme
-routine_lexeme routine_words.Procedure = word_procedure
-routine_lexeme routine_words.Transaction = word_transaction
-
 unfoldable pub routine_of : Lexeme → Option RoutineWord
 routine_of = by_table routine_lexeme (routine_words.Procedure ∷ routine_words.Transaction ∷ [])
 
@@ -71,11 +69,11 @@ heading =
 
 unfoldable pub const_decl : ℕ → Parser ConstDecl
 const_decl depth =
-    (λ found. record { name = found.0; value = found.1 }) <$> (ident ⊗ after equals (closed (at_depth depth).expr semicolon))
+    (λ found. record { name = found.0; value = found.1 }) <$> (ident ⊗ after equal_sign (closed (at_depth depth).expr semicolon))
 
 unfoldable pub type_decl : ℕ → Parser TypeDecl
 type_decl depth =
-    (λ found. record { name = found.0; kind = found.1 }) <$> (ident ⊗ after equals (closed (type_at depth) semicolon))
+    (λ found. record { name = found.0; kind = found.1 }) <$> (ident ⊗ after equal_sign (closed (type_at depth) semicolon))
 
 unfoldable pub var_decl : ℕ → Parser VarDecl
 var_decl depth =
