@@ -1,3 +1,8 @@
-pub mod Sets
+pub mod JoinLaw
 pub mod Law
-pub mod Steps
+pub mod ManyLaw
+pub mod MeetsLaw
+pub mod Numbers
+pub mod Sets
+pub mod SteadyLaw
+pub mod TokenLaw
