@@ -1,3 +1,4 @@
+pub mod ChoiceLaw
 pub mod JoinLaw
 pub mod Law
 pub mod ManyLaw
