@@ -7,7 +7,7 @@ use Rattle.dbpl_base.specs.declared.token.Token.{Token}
 use Rattle.dbpl_tree.specs.Depths.{greatest, option_depth}
 use Rattle.dbpl_tree.specs.Marks.{Mark, Of, Before, Meets, option_marks, where_marks}
 use Rattle.dbpl_grammar.specs.Reading.{Parser, Refused, ◌>>=◌, ◌<$>◌, ◌⊗◌, ◌⊗>◌, after, among, begins, closed, either, flag, like, many, many_from, nothing, optional, too_deep}
-use Rattle.dbpl_grammar.proofs.JoinLaw.{ends_before, ends_less, expect_meets, may_follow, token_begins}
+use Rattle.dbpl_grammar.proofs.JoinLaw.{ends_before, ends_less, may_follow}
 use Rattle.dbpl_grammar.proofs.Law.{BeginsBy, Ends, Law, Wrote, by_nothing, by_token}
 use Rattle.dbpl_grammar.proofs.ManyLaw.{Goes, steady_many}
 use Rattle.dbpl_grammar.proofs.MeetsLaw.{meets_join, meets_shorter, meets_split}
@@ -47,7 +47,7 @@ law_same {limit = limit} w' n' marks depth law = record {
 
 -- ---- one or the other
 
-begins_with : (set : List Lexeme) (tokens rest : List Token) → BeginsBy set false tokens rest → begins set tokens ≡ true
+pub begins_with : (set : List Lexeme) (tokens rest : List Token) → BeginsBy set false tokens rest → begins set tokens ≡ true
 begins_with set tokens rest (by_token token behind split is shorter) = ap (begins set) split ∙ is
 begins_with set tokens rest (by_nothing none split) = absurd (true≢false (sym none))
 
@@ -127,7 +127,7 @@ module _ {A : Type 0} {w : A → List Mark} {n : A → ℕ} {limit : ℕ} {first
       only_token (by_token token behind split is shorter) = by_token token behind split is shorter
       only_token (by_nothing none split) = absurd (true≢false (sym none))
 
-  first_ends : (rest : List Token) → Ends (first ++ more) rest → Ends first rest × Ends more rest
+  pub first_ends : (rest : List Token) → Ends (first ++ more) rest → Ends first rest × Ends more rest
   first_ends [] e = (refl, refl)
   first_ends (token ∷ rest) e = by_among (among first token.lexeme) (among more token.lexeme) (sym (among_append first more token.lexeme) ∙ e)
     where

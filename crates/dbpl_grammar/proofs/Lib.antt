@@ -1,6 +1,7 @@
 pub mod ChoiceLaw
 pub mod JoinLaw
 pub mod Law
+pub mod ListLaw
 pub mod ManyLaw
 pub mod MeetsLaw
 pub mod Numbers
