@@ -1,9 +1,11 @@
 pub mod ChoiceLaw
+pub mod Every
 pub mod JoinLaw
 pub mod Law
 pub mod ListLaw
 pub mod ManyLaw
 pub mod MeetsLaw
+pub mod NameLaw
 pub mod Numbers
 pub mod Sets
 pub mod SteadyLaw

@@ -1,0 +1,51 @@
+-- The law of names.
+use Rattle.std.proofs.Common.{◌≡◌, ℕ, max, true, false, List, [], ◌∷◌, Option, Some, None, refl, sym, ap, ◌∙◌, arith}
+use Rattle.dbpl_base.specs.declared.lexeme.Lexeme.{Lexeme}
+use Rattle.dbpl_base.specs.declared.lexeme.Lexeme.TheVariants as lexemes
+use Rattle.dbpl_tree.specs.Marks.{Of}
+use Rattle.dbpl_tree.specs.Names.{ident_marks, idents_marks, qual_marks}
+use Rattle.dbpl_tree.specs.Words.{comma, full_stop}
+use Rattle.dbpl_tree.specs.declared.ident.Ident.{Ident}
+use Rattle.dbpl_tree.specs.declared.ident.Idents.{Idents}
+use Rattle.dbpl_tree.specs.declared.ident.Qual.{Qual}
+use Rattle.dbpl_grammar.specs.Expressions.{ident, ident_first, idents, name_of, qual}
+use Rattle.dbpl_grammar.specs.Reading.{leaf}
+use Rattle.dbpl_grammar.proofs.Every.{Every, all_those, both, made, maybe}
+use Rattle.dbpl_grammar.proofs.Law.{Law}
+use Rattle.dbpl_grammar.proofs.TokenLaw.{law_after, law_here, law_leaf}
+
+name_is : (l : Lexeme) (x : List ℕ) → name_of l ≡ Some x → l ≡ lexemes.Ident x
+name_is (lexemes.Ident name) x e = ap (λ (o : Option (List ℕ)). lexemes.Ident (or_none o)) e
+  where
+    or_none : Option (List ℕ) → List ℕ
+    or_none (Some y) = y
+    or_none None = []
+name_is (lexemes.Number n) x e = absurd (let no : None ≡ Some x = e in cc)
+name_is (lexemes.CharCode n) x e = absurd (let no : None ≡ Some x = e in cc)
+name_is (lexemes.Text text) x e = absurd (let no : None ≡ Some x = e in cc)
+name_is (lexemes.Reserved row) x e = absurd (let no : None ≡ Some x = e in cc)
+name_is (lexemes.Sign row) x e = absurd (let no : None ≡ Some x = e in cc)
+name_is lexemes.Finish x e = absurd (let no : None ≡ Some x = e in cc)
+
+pub law_ident : (limit : ℕ) → Every ident_marks (λ (x : Ident). 0) limit ident_first [] false ident
+unfolding ident
+law_ident limit =
+    made ident_marks (λ (x : Ident). 0) (both (law_here limit) (law_leaf limit name_of lexemes.Ident ident_first (λ x. refl) name_is (λ x. refl)) refl) (λ found. record { place = found.0; name = found.1 }) (λ x. (x.place, x.name)) (λ x. refl) (λ x. refl) (λ x. refl)
+
+pub law_idents : (limit : ℕ) → Every idents_marks (λ (x : Idents). 0) limit ident_first (comma ∷ []) false idents
+unfolding idents
+law_idents limit =
+    made idents_marks (λ (x : Idents). 0) (both (law_ident limit) (all_those (law_after comma refl (law_ident limit)) refl) refl) (λ found. record { first = found.0; others = found.1 }) (λ x. (x.first, x.others)) (λ x. refl) (λ x. shallow x.1) (λ x. refl)
+  where
+    shallow : (xs : List Ident) → 0 ≡ max 0 (Rattle.dbpl_tree.specs.Depths.greatest (λ (x : Ident). 0) xs)
+    shallow [] = refl
+    shallow (x ∷ xs) = let one = shallow xs in omega arith
+
+pub law_qual : (limit : ℕ) → Every qual_marks (λ (x : Qual). 0) limit ident_first (full_stop ∷ []) false qual
+unfolding qual
+law_qual limit =
+    made qual_marks (λ (x : Qual). 0) (both (law_ident limit) (maybe (law_after full_stop refl (law_ident limit))) refl) (λ found. record { first = found.0; second = found.1 }) (λ x. (x.first, x.second)) (λ x. refl) (λ x. shallow x.1) (λ x. refl)
+  where
+    shallow : (x : Option Ident) → 0 ≡ max 0 (Rattle.dbpl_tree.specs.Depths.option_depth (λ (x : Ident). 0) x)
+    shallow None = refl
+    shallow (Some x) = refl
