@@ -1,5 +1,5 @@
 -- The laws where each tree of its type is meant.
-use Rattle.std.proofs.Common.{◌≡◌, ℕ, ◌≤◌, max, Bool, true, false, ◌&&◌, ◌⊎◌, inl, inr, List, [], ◌∷◌, ◌++◌, flat_map, Option, Some, None, refl, sym, ap, ◌∙◌, subst}
+use Rattle.std.proofs.Common.{◌≡◌, ℕ, ◌≤◌, max, Bool, true, false, ◌&&◌, ◌⊎◌, inl, inr, List, [], ◌∷◌, ◌++◌, flat_map, Option, Some, None, refl, sym, ap, ◌∙◌, subst, arith}
 use Rattle.dbpl_base.specs.declared.lexeme.Lexeme.{Lexeme}
 use Rattle.dbpl_tree.specs.Depths.{greatest, option_depth}
 use Rattle.dbpl_tree.specs.Marks.{Mark, Of, option_marks}
@@ -40,3 +40,13 @@ variant {A = A} {B = B} w' n' law make marks depth =
 pub made : {A B : Type 0} {w : A → List Mark} {n : A → ℕ} {limit : ℕ} {first more : List Lexeme} {empty : Bool} {read : Parser A} (w' : B → List Mark) (n' : B → ℕ) → Law w n limit first more empty (λ (x : A). Unit {0}) read → (make : A → B) (unmake : B → A) → ((x : A) → w' (make x) ≡ w x) → ((x : A) → n' (make x) ≡ n x) → ((y : B) → make (unmake y) ≡ y) → Law w' n' limit first more empty (λ (y : B). Unit {0}) (make <$> read)
 made {A = A} {B = B} w' n' law make unmake marks depth again =
     law_all (λ (y : B). Unit {0}) (λ y is. (unmake y, again y)) (λ y is. tt) (variant w' n' law make marks depth)
+
+-- ---- what has nothing deep in it
+
+pub shallow_list : {A : Type 0} (xs : List A) → greatest (λ (x : A). 0) xs ≡ 0
+shallow_list [] = refl
+shallow_list (x ∷ xs) = let one = shallow_list xs in omega arith
+
+pub shallow_option : {A : Type 0} (x : Option A) → option_depth (λ (y : A). 0) x ≡ 0
+shallow_option None = refl
+shallow_option (Some x) = refl

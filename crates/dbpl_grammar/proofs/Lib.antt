@@ -1,5 +1,6 @@
 pub mod ChoiceLaw
 pub mod Every
+pub mod ExprLaw
 pub mod JoinLaw
 pub mod Law
 pub mod ListLaw
@@ -7,6 +8,7 @@ pub mod ManyLaw
 pub mod MeetsLaw
 pub mod NameLaw
 pub mod Numbers
+pub mod OperatorLaw
 pub mod Sets
 pub mod SteadyLaw
 pub mod TokenLaw

@@ -10,7 +10,7 @@ use Rattle.dbpl_tree.specs.declared.ident.Idents.{Idents}
 use Rattle.dbpl_tree.specs.declared.ident.Qual.{Qual}
 use Rattle.dbpl_grammar.specs.Expressions.{ident, ident_first, idents, name_of, qual}
 use Rattle.dbpl_grammar.specs.Reading.{leaf}
-use Rattle.dbpl_grammar.proofs.Every.{Every, all_those, both, made, maybe}
+use Rattle.dbpl_grammar.proofs.Every.{Every, all_those, both, made, maybe, shallow_list, shallow_option}
 use Rattle.dbpl_grammar.proofs.Law.{Law}
 use Rattle.dbpl_grammar.proofs.TokenLaw.{law_after, law_here, law_leaf}
 
@@ -35,17 +35,9 @@ law_ident limit =
 pub law_idents : (limit : ℕ) → Every idents_marks (λ (x : Idents). 0) limit ident_first (comma ∷ []) false idents
 unfolding idents
 law_idents limit =
-    made idents_marks (λ (x : Idents). 0) (both (law_ident limit) (all_those (law_after comma refl (law_ident limit)) refl) refl) (λ found. record { first = found.0; others = found.1 }) (λ x. (x.first, x.others)) (λ x. refl) (λ x. shallow x.1) (λ x. refl)
-  where
-    shallow : (xs : List Ident) → 0 ≡ max 0 (Rattle.dbpl_tree.specs.Depths.greatest (λ (x : Ident). 0) xs)
-    shallow [] = refl
-    shallow (x ∷ xs) = let one = shallow xs in omega arith
+    made idents_marks (λ (x : Idents). 0) (both (law_ident limit) (all_those (law_after comma refl (law_ident limit)) refl) refl) (λ found. record { first = found.0; others = found.1 }) (λ x. (x.first, x.others)) (λ x. refl) (λ x. let none = shallow_list x.1 in omega arith) (λ x. refl)
 
 pub law_qual : (limit : ℕ) → Every qual_marks (λ (x : Qual). 0) limit ident_first (full_stop ∷ []) false qual
 unfolding qual
 law_qual limit =
-    made qual_marks (λ (x : Qual). 0) (both (law_ident limit) (maybe (law_after full_stop refl (law_ident limit))) refl) (λ found. record { first = found.0; second = found.1 }) (λ x. (x.first, x.second)) (λ x. refl) (λ x. shallow x.1) (λ x. refl)
-  where
-    shallow : (x : Option Ident) → 0 ≡ max 0 (Rattle.dbpl_tree.specs.Depths.option_depth (λ (x : Ident). 0) x)
-    shallow None = refl
-    shallow (Some x) = refl
+    made qual_marks (λ (x : Qual). 0) (both (law_ident limit) (maybe (law_after full_stop refl (law_ident limit))) refl) (λ found. record { first = found.0; second = found.1 }) (λ x. (x.first, x.second)) (λ x. refl) (λ x. let none = shallow_option x.1 in omega arith) (λ x. refl)
