@@ -106,12 +106,12 @@ range_depth_level d (phrases.Range::Aggregate a) = suc (d.aggregate a)
 -- where the depths stand already
 abbrev pub counted : Depth ℕ ℕ ℕ ℕ ℕ
 counted = record {
-    element = λ depth. depth;
-    factor = λ depth. depth;
-    range = λ depth. depth;
-    aggregate = λ depth. depth;
-    each = λ depth. depth
-  }
+  element = λ depth. depth;
+  factor = λ depth. depth;
+  range = λ depth. depth;
+  aggregate = λ depth. depth;
+  each = λ depth. depth;
+}
 
 abbrev pub factor_depth : Factor → ℕ
 factor_depth f =
@@ -141,9 +141,9 @@ range_depth r =
 -- what gives the depth of the phrases of a tree
 abbrev pub depths : Depth Element Factor Range Aggregate Each
 depths = record {
-    element = element_depth;
-    factor = factor_depth;
-    range = range_depth;
-    aggregate = aggregate_depth;
-    each = each_depth
-  }
+  element = element_depth;
+  factor = factor_depth;
+  range = range_depth;
+  aggregate = aggregate_depth;
+  each = each_depth;
+}

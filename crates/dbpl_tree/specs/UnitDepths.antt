@@ -1,6 +1,6 @@
 -- How deep phrases stand inside one another in types, statements, declarations and modules. Types and lists of
 -- statements count themselves.
-use Rattle.std.specs.Prelude.{ℕ, suc, max, List, [], ◌∷◌, Option}
+use Rattle.std.specs.Prelude.{ℕ, suc, max, Option}
 use Rattle.dbpl_tree.specs.Depths.{aggregate_depth, arguments_depth, designator_depth, expr_depth, factor_depth, greatest, option_depth, range_depth}
 use Rattle.dbpl_tree.specs.declared.case.CaseOf.{CaseOf}
 use Rattle.dbpl_tree.specs.declared.case.CaseOf.TheVariants as cases
@@ -22,8 +22,6 @@ use Rattle.dbpl_tree.specs.declared.type_tree.FieldsOf.{FieldsOf}
 use Rattle.dbpl_tree.specs.declared.type_tree.FieldsOf.TheVariants as fields
 use Rattle.dbpl_tree.specs.declared.type_tree.TypeTree.{TypeTree, TypeTree-F, fold-TypeTree}
 use Rattle.dbpl_tree.specs.declared.type_tree.TypeTree.TheOpen as types
-use Rattle.dbpl_tree.specs.declared.unit.DataUnit.{DataUnit}
-use Rattle.dbpl_tree.specs.declared.unit.DefinitionUnit.{DefinitionUnit}
 use Rattle.dbpl_tree.specs.declared.unit.Program.{Program}
 use Rattle.dbpl_tree.specs.declared.unit.Unit.{Unit}
 use Rattle.dbpl_tree.specs.declared.unit.Unit.TheVariants as units
