@@ -18,8 +18,8 @@ use Rattle.dbpl_tree.specs.declared.simple.AddedOf.{AddedOf}
 use Rattle.dbpl_tree.specs.declared.simple.SimpleOf.{SimpleOf}
 use Rattle.dbpl_tree.specs.declared.term.MultipliedOf.{MultipliedOf}
 use Rattle.dbpl_tree.specs.declared.term.TermOf.{TermOf}
-use Rattle.dbpl_grammar.specs.Expressions.{added, adding_first, arguments, compared, designator, expr, expr_first, exprs, factor_first, ident_first, multiplied, multiplying_first, part, part_first, relations_first, signs_first, simple, subscripts, term}
-use Rattle.dbpl_grammar.specs.Reading.{Parser}
+use Rattle.dbpl_grammar.specs.Expressions.{added, adding_first, arguments, compared, designator, expr, expr_first, exprs, factor_first, ident, ident_first, multiplied, multiplying_first, part, part_first, relations_first, signs_first, simple, subscripts, term}
+use Rattle.dbpl_grammar.specs.Reading.{Parser, ◌<$>◌, after}
 use Rattle.dbpl_grammar.proofs.ChoiceLaw.{law_all, law_either, law_wider}
 use Rattle.dbpl_grammar.proofs.Every.{Every, all_those, both, made, maybe, shallow_list, shallow_option, variant}
 use Rattle.dbpl_grammar.proofs.JoinLaw.{law_closed}
@@ -72,3 +72,35 @@ module _ {F : Type 0} {w : F → List Mark} {n : F → ℕ} {limit : ℕ} {facto
   unfolding expr
   law_expr_inside =
       made (expr_marks w) (λ (x : ExprOf F). max (simple_depth n x.left) (option_depth (compared_depth n) x.right)) (both (law_here limit) (both law_simple (maybe law_compared) refl) refl) (λ found. record { place = found.0; left = found.1.0; right = found.1.1 }) (λ x. (x.place, (x.left, x.right))) (λ x. refl) (λ x. omega arith) (λ x. refl)
+
+module _ {F : Type 0} (w : F → List Mark) (n : F → ℕ) {limit : ℕ} {expr : Parser (ExprOf F)} (law : Every (expr_marks w) (expr_depth n) limit expr_first expr_more false expr) where
+  pub law_exprs : Every (exprs_marks w) (exprs_depth n) limit expr_first (comma ∷ expr_more) false (exprs expr)
+  unfolding exprs
+  law_exprs =
+      made (exprs_marks w) (exprs_depth n) (both law (all_those (law_after comma refl law) refl) refl) (λ found. record { first = found.0; others = found.1 }) (λ x. (x.first, x.others)) (λ x. refl) (λ x. refl) (λ x. refl)
+
+  pub law_arguments : Every (arguments_marks w) (arguments_depth n) limit (left_parenthesis ∷ []) [] false (arguments expr)
+  unfolding arguments
+  law_arguments =
+      made (arguments_marks w) (arguments_depth n) (both (law_here limit) (law_after left_parenthesis refl (law_closed right_parenthesis refl refl (maybe law_exprs))) refl) (λ found. record { place = found.0; exprs = found.1 }) (λ x. (x.place, x.exprs)) (λ x. refl) (λ x. omega arith) (λ x. refl)
+
+  law_field : Law (part_marks w) (part_depth n) limit (full_stop ∷ []) [] false (λ (y : PartOf F). (x : Ident) × (Field x ≡ y)) (Field <$> after full_stop ident)
+  law_field = variant (part_marks w) (part_depth n) (law_after full_stop refl (law_ident limit)) Field (λ x. refl) (λ x. refl)
+
+  law_subscripts : Law (part_marks w) (part_depth n) limit (left_bracket ∷ []) [] false (λ (y : PartOf F). (x : Place × ExprsOf F) × (Subscripts x.0 x.1 ≡ y)) ((λ found. Subscripts found.0 found.1) <$> subscripts expr)
+  unfolding subscripts
+  law_subscripts =
+      variant (part_marks w) (part_depth n) (both (law_here limit) (law_after left_bracket refl (law_closed right_bracket refl refl law_exprs)) refl) (λ found. Subscripts found.0 found.1) (λ x. refl) (λ x. omega arith)
+
+  pub law_part : Every (part_marks w) (part_depth n) limit part_first [] false (part expr)
+  unfolding part
+  law_part = law_all (λ (y : PartOf F). Unit {0}) (λ y is. cases y) (λ y is. tt) (law_either law_field law_subscripts refl)
+    where
+      cases : (y : PartOf F) → ((x : Ident) × (Field x ≡ y)) ⊎ ((x : Place × ExprsOf F) × (Subscripts x.0 x.1 ≡ y))
+      cases (Field x) = inl (x, refl)
+      cases (Subscripts place es) = inr ((place, es), refl)
+
+  pub law_designator : Every (designator_marks w) (designator_depth n) limit ident_first part_first false (designator expr)
+  unfolding designator
+  law_designator =
+      made (designator_marks w) (designator_depth n) (both (law_ident limit) (all_those law_part refl) refl) (λ found. record { head = found.0; parts = found.1 }) (λ x. (x.head, x.parts)) (λ x. refl) (λ x. omega arith) (λ x. refl)
