@@ -184,3 +184,17 @@ law_deep {A = A} w n limit first more set empty Is none = record {
     by_begins : (b : Bool) (found : A) (tokens rest : List Token) → (if b then err {A = A × List Token} (record { reason = Rattle.dbpl_grammar.specs.Reading.Deep; rest = tokens }) else Err (record { reason = Rattle.dbpl_grammar.specs.Reading.Wrong; rest = tokens })) ≡ Ok (found, rest) → Wrote w n limit Is found tokens rest
     by_begins true found tokens rest e = absurd (err_isnt _ _ e)
     by_begins false found tokens rest e = absurd (err_isnt _ _ e)
+
+-- ---- a phrase that counts as one deeper
+
+pub law_counted : {A : Type 0} {w : A → List Mark} {n : A → ℕ} {limit : ℕ} {first more : List Lexeme} {empty : Bool} {Is : A → Type 0} {read : Parser A} → Law w n limit first more empty Is read → Law w (λ (x : A). suc (n x)) (suc limit) first more empty Is read
+law_counted law = record {
+  begins_by = λ found tokens rest is fits meets. law.begins_by found tokens rest is (omega arith) meets;
+  reads = λ found tokens rest is fits meets ends. law.reads found tokens rest is (omega arith) meets ends;
+  wrote = λ found tokens rest e. (let one = law.wrote found tokens rest e in let fits = one.fits in record {
+    is = one.is;
+    fits = omega arith;
+    meets = one.meets;
+  });
+  steady = law.steady;
+}

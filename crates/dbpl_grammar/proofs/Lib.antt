@@ -10,6 +10,7 @@ pub mod MeetsLaw
 pub mod NameLaw
 pub mod Numbers
 pub mod OperatorLaw
+pub mod RangeLaw
 pub mod Sets
 pub mod SteadyLaw
 pub mod TokenLaw
