@@ -1,6 +1,7 @@
 pub mod ChoiceLaw
 pub mod Every
 pub mod ExprLaw
+pub mod FactorLaw
 pub mod InnerLaw
 pub mod JoinLaw
 pub mod Law
