@@ -15,3 +15,4 @@ pub mod RangeLaw
 pub mod Sets
 pub mod SteadyLaw
 pub mod TokenLaw
+pub mod TypeLaw
