@@ -13,6 +13,7 @@ pub mod Numbers
 pub mod OperatorLaw
 pub mod RangeLaw
 pub mod Sets
+pub mod StatementLaw
 pub mod SteadyLaw
 pub mod TokenLaw
 pub mod TypeLaw
