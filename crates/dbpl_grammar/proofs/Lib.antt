@@ -17,3 +17,4 @@ pub mod StatementLaw
 pub mod SteadyLaw
 pub mod TokenLaw
 pub mod TypeLaw
+pub mod UnitLaw
