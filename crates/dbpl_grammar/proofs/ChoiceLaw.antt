@@ -1,20 +1,16 @@
 -- The law of a choice by the first token, of phrases that may be absent or stand again and again, and of phrases where
 -- none may stand any more.
-use Rattle.std.proofs.Common.{◌≡◌, ℕ, zero, suc, ◌≤◌, ◌<◌, max, Bool, true, false, not, ◌&&◌, ◌||◌, ◌⊎◌, inl, inr, List, [], ◌∷◌, ◌++◌, length, flat_map, Option, Some, None, Result, Ok, Err, refl, sym, ap, ap₂, ◌∙◌, subst, zero-le, le_refl, le_trans, not-suc-le-zero, append_assoc, append-nil, arith, true≢false, if◌then◌else◌}
-use Rattle.std.proofs.lemmas.Bool.{and_parts}
+use Rattle.std.proofs.Common.{◌≡◌, ℕ, suc, ◌≤◌, Bool, true, false, ◌||◌, ◌⊎◌, inl, inr, List, [], ◌∷◌, ◌++◌, Option, Some, None, Ok, Err, refl, sym, ap, ap₂, ◌∙◌, subst, zero-le, arith, true≢false, if◌then◌else◌}
 use Rattle.dbpl_base.specs.declared.lexeme.Lexeme.{Lexeme}
 use Rattle.dbpl_base.specs.declared.token.Token.{Token}
-use Rattle.dbpl_tree.specs.Depths.{greatest, option_depth}
-use Rattle.dbpl_tree.specs.Marks.{Mark, Of, Before, Meets, option_marks, where_marks}
+use Rattle.dbpl_tree.specs.Depths.{option_depth}
+use Rattle.dbpl_tree.specs.Marks.{Mark, Meets, option_marks}
 use Rattle.dbpl_grammar.specs.Reading.{Parser, Refused, ◌>>=◌, ◌<$>◌, ◌⊗◌, ◌⊗>◌, after, among, begins, closed, either, flag, like, many, many_from, nothing, optional, too_deep}
 use Rattle.dbpl_grammar.proofs.JoinLaw.{ends_before, ends_less, may_follow}
 use Rattle.dbpl_grammar.proofs.Law.{BeginsBy, Ends, Law, Wrote, by_nothing, by_token}
-use Rattle.dbpl_grammar.proofs.ManyLaw.{Goes, steady_many}
-use Rattle.dbpl_grammar.proofs.MeetsLaw.{meets_join, meets_shorter, meets_split}
-use Rattle.dbpl_grammar.proofs.Numbers.{max_both, max_left, max_right}
-use Rattle.dbpl_grammar.proofs.Sets.{among_append, apart, apart_so, is_fixed, like_self, outside_so, within, within_so}
-use Rattle.dbpl_grammar.proofs.SteadyLaw.{steady_after, steady_either, steady_map, steady_pure, steady_refused}
-use Rattle.dbpl_grammar.proofs.TokenLaw.{Any, both_ok, err, err_isnt, expect_ok, ok, ok_is}
+use Rattle.dbpl_grammar.proofs.Sets.{among_append, within, within_so}
+use Rattle.dbpl_grammar.proofs.SteadyLaw.{steady_either, steady_map, steady_pure, steady_refused}
+use Rattle.dbpl_grammar.proofs.TokenLaw.{both_ok, err, err_isnt, ok_is}
 
 -- ---- the same law with more lexemes that may begin or go on
 
@@ -167,7 +163,7 @@ law_nothing {A = A} w n limit = record {
   begins_by = λ found tokens rest is fits meets. by_nothing refl (subst (λ (x : Option A). Meets tokens (option_marks w x) rest) is meets);
   reads = λ found tokens rest is fits meets ends. ap₂ (λ (x : Option A) (t : List Token). Ok (x, t)) (sym is) (subst (λ (x : Option A). Meets tokens (option_marks w x) rest) is meets);
   wrote = λ found tokens rest e. (let same = ok_is (None, tokens) (found, rest) e in
-    subst (λ (s : Option A × List Token). Wrote (option_marks w) (option_depth n) limit (λ (x : Option A). x ≡ None) s.0 tokens s.1) {x = (None, tokens)} same (record { is = refl; fits = zero-le; meets = refl }));
+      subst (λ (s : Option A × List Token). Wrote (option_marks w) (option_depth n) limit (λ (x : Option A). x ≡ None) s.0 tokens s.1) {x = (None, tokens)} same (record { is = refl; fits = zero-le; meets = refl }));
   steady = λ tokens. steady_pure None tokens;
 }
 

@@ -1,14 +1,13 @@
 -- The laws where each tree of its type is meant.
-use Rattle.std.proofs.Common.{◌≡◌, ℕ, ◌≤◌, max, Bool, true, false, ◌&&◌, ◌⊎◌, inl, inr, List, [], ◌∷◌, ◌++◌, flat_map, Option, Some, None, refl, sym, ap, ◌∙◌, subst, arith}
+use Rattle.std.proofs.Common.{◌≡◌, ℕ, max, Bool, true, false, ◌&&◌, List, [], ◌∷◌, ◌++◌, flat_map, Option, Some, None, refl, arith}
 use Rattle.dbpl_base.specs.declared.lexeme.Lexeme.{Lexeme}
 use Rattle.dbpl_tree.specs.Depths.{greatest, option_depth}
-use Rattle.dbpl_tree.specs.Marks.{Mark, Of, option_marks}
-use Rattle.dbpl_grammar.specs.Reading.{Parser, ◌<$>◌, ◌⊗◌, after, either, many, optional}
+use Rattle.dbpl_tree.specs.Marks.{Mark, option_marks}
+use Rattle.dbpl_grammar.specs.Reading.{Parser, ◌<$>◌, ◌⊗◌, many, optional}
 use Rattle.dbpl_grammar.proofs.ChoiceLaw.{IfThere, law_all, law_optional}
 use Rattle.dbpl_grammar.proofs.JoinLaw.{first_of, law_made, law_seq, may_follow}
 use Rattle.dbpl_grammar.proofs.Law.{Law}
 use Rattle.dbpl_grammar.proofs.ListLaw.{EachIs, law_many}
-use Rattle.dbpl_grammar.proofs.TokenLaw.{Any}
 
 -- the law of every tree of this type
 abbrev pub Every : {A : Type 0} → (A → List Mark) → (A → ℕ) → ℕ → List Lexeme → List Lexeme → Bool → Parser A → Type 0

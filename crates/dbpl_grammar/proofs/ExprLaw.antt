@@ -1,27 +1,20 @@
 -- The law of expressions and designators, over any factors.
-use Rattle.std.proofs.Common.{◌≡◌, ℕ, suc, ◌≤◌, max, Bool, true, false, ◌⊎◌, inl, inr, List, [], ◌∷◌, ◌++◌, Option, Some, None, refl, sym, ap, ◌∙◌, arith}
+use Rattle.std.proofs.Common.{◌≡◌, ℕ, max, false, ◌⊎◌, inl, inr, List, [], ◌∷◌, ◌++◌, refl, arith}
 use Rattle.dbpl_base.specs.declared.lexeme.Lexeme.{Lexeme}
 use Rattle.dbpl_base.specs.declared.place.Place.{Place}
-use Rattle.dbpl_tree.specs.Depths.{added_depth, arguments_depth, compared_depth, designator_depth, expr_depth, exprs_depth, greatest, multiplied_depth, option_depth, part_depth, simple_depth, term_depth}
+use Rattle.dbpl_tree.specs.Depths.{added_depth, arguments_depth, compared_depth, designator_depth, expr_depth, exprs_depth, multiplied_depth, option_depth, part_depth, simple_depth, term_depth}
 use Rattle.dbpl_tree.specs.Expressions.{added_marks, arguments_marks, compared_marks, designator_marks, expr_marks, exprs_marks, multiplied_marks, part_marks, simple_marks, term_marks}
-use Rattle.dbpl_tree.specs.Marks.{Mark, Of}
+use Rattle.dbpl_tree.specs.Marks.{Mark}
 use Rattle.dbpl_tree.specs.Words.{comma, full_stop, left_brace, left_bracket, left_parenthesis, right_bracket, right_parenthesis}
-use Rattle.dbpl_tree.specs.declared.designator.ArgumentsOf.{ArgumentsOf}
-use Rattle.dbpl_tree.specs.declared.designator.DesignatorOf.{DesignatorOf}
 use Rattle.dbpl_tree.specs.declared.designator.PartOf.{PartOf}
 use Rattle.dbpl_tree.specs.declared.designator.PartOf.TheVariants.{Field, Subscripts}
-use Rattle.dbpl_tree.specs.declared.expr.ComparedOf.{ComparedOf}
 use Rattle.dbpl_tree.specs.declared.expr.ExprOf.{ExprOf}
 use Rattle.dbpl_tree.specs.declared.expr.ExprsOf.{ExprsOf}
 use Rattle.dbpl_tree.specs.declared.ident.Ident.{Ident}
-use Rattle.dbpl_tree.specs.declared.simple.AddedOf.{AddedOf}
-use Rattle.dbpl_tree.specs.declared.simple.SimpleOf.{SimpleOf}
-use Rattle.dbpl_tree.specs.declared.term.MultipliedOf.{MultipliedOf}
-use Rattle.dbpl_tree.specs.declared.term.TermOf.{TermOf}
-use Rattle.dbpl_grammar.specs.Expressions.{added, adding_first, arguments, compared, designator, expr, expr_first, exprs, factor_first, ident, ident_first, multiplied, multiplying_first, part, part_first, relations_first, signs_first, simple, subscripts, term}
+use Rattle.dbpl_grammar.specs.Expressions.{added, adding_first, arguments, compared, designator, expr, expr_first, exprs, factor_first, ident, ident_first, multiplied, multiplying_first, part, part_first, relations_first, simple, subscripts, term}
 use Rattle.dbpl_grammar.specs.Reading.{Parser, ◌<$>◌, after}
-use Rattle.dbpl_grammar.proofs.ChoiceLaw.{law_all, law_either, law_wider}
-use Rattle.dbpl_grammar.proofs.Every.{Every, all_those, both, made, maybe, shallow_list, shallow_option, variant}
+use Rattle.dbpl_grammar.proofs.ChoiceLaw.{law_all, law_either}
+use Rattle.dbpl_grammar.proofs.Every.{Every, all_those, both, made, maybe, shallow_option, variant}
 use Rattle.dbpl_grammar.proofs.JoinLaw.{law_closed}
 use Rattle.dbpl_grammar.proofs.Law.{Law}
 use Rattle.dbpl_grammar.proofs.NameLaw.{law_ident}

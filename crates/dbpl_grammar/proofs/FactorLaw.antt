@@ -1,10 +1,10 @@
 -- The law of factors, and of expressions, ranges and negations at every depth.
-use Rattle.std.proofs.Common.{◌≡◌, ℕ, zero, suc, ◌≤◌, max, Bool, true, false, ◌⊎◌, inl, inr, List, [], ◌∷◌, ◌++◌, append-nil, Option, Some, None, refl, sym, ap, ap₂, ◌∙◌, subst, arith, not-suc-le-zero, true≢false, if◌then◌else◌}
+use Rattle.std.proofs.Common.{◌≡◌, ℕ, zero, suc, ◌≤◌, max, Bool, true, false, ◌⊎◌, inl, inr, List, [], ◌∷◌, ◌++◌, Option, refl, sym, ap, ◌∙◌, subst, arith, not-suc-le-zero, true≢false, if◌then◌else◌}
 use Rattle.dbpl_base.specs.declared.lexeme.Lexeme.{Lexeme}
 use Rattle.dbpl_base.specs.declared.lexeme.Lexeme.TheVariants as lexemes
 use Rattle.dbpl_base.specs.declared.place.Place.{Place}
 use Rattle.dbpl_tree.proofs.Levels.{aggregate_depth-out, aggregate_marks-out, factor_depth-out, factor_marks-out, range_depth-out}
-use Rattle.dbpl_tree.specs.Depths.{arguments_depth, compared_depth, depths, designator_depth, element_depth, expr_depth, factor_depth, factor_depth_level, greatest, option_depth, range_depth, range_depth_level, simple_depth}
+use Rattle.dbpl_tree.specs.Depths.{arguments_depth, depths, designator_depth, element_depth, expr_depth, factor_depth, factor_depth_level, greatest, option_depth, range_depth, range_depth_level}
 use Rattle.dbpl_tree.specs.Expressions.{arguments_marks, designator_marks, expr_marks}
 use Rattle.dbpl_tree.specs.Factors.{factor_level, factor_marks, range_marks, spelling}
 use Rattle.dbpl_tree.specs.Marks.{Mark, option_marks}
@@ -23,8 +23,8 @@ use Rattle.dbpl_tree.specs.declared.operators.NotOperator.{NotOperator}
 use Rattle.dbpl_tree.specs.declared.operators.Quantifier.{Quantifier}
 use Rattle.dbpl_tree.specs.declared.range.Range.{Range, Range-F, out-Range}
 use Rattle.dbpl_grammar.specs.Expressions.{Behind, Braced, Called, Inner, at_depth, behind, braced, called, char_code, char_code_of, expr, expr_first, factor, factor_first, ident_first, is_qual, named, named_made, negated, not_first, number, number_of, parenthesized, qual_in, quantified, quantifier_first, text, text_of}
-use Rattle.dbpl_grammar.specs.Lexemes.{a_char_code, a_number, a_text, an_ident}
-use Rattle.dbpl_grammar.specs.Reading.{Parser, ◌<$>◌, either}
+use Rattle.dbpl_grammar.specs.Lexemes.{a_char_code, a_number, a_text}
+use Rattle.dbpl_grammar.specs.Reading.{◌<$>◌, either}
 use Rattle.dbpl_grammar.proofs.ChoiceLaw.{law_all, law_counted, law_deep, law_either, law_same, law_wider}
 use Rattle.dbpl_grammar.proofs.Every.{Every, both, maybe, variant}
 use Rattle.dbpl_grammar.proofs.ExprLaw.{expr_more, factor_more, law_arguments, law_designator, law_expr_inside}
@@ -137,6 +137,7 @@ module _ {limit : ℕ} {inner : Inner} (laws : InnerLaw limit inner) where
       to : (y : Behind) → ((x : List Element) × (Braced x ≡ y)) ⊎ ((x : Option (ArgumentsOf Factor)) × (Called x ≡ y))
       to (Braced xs) = inl (xs, refl)
       to (Called arguments) = inr (arguments, refl)
+
       back : (y : Behind) → MayStand found y
       back (Braced xs) = is
       back (Called arguments) = tt

@@ -1,11 +1,11 @@
 -- The law of EACH, elements, aggregates and ranges, over the phrases that count as one deeper.
-use Rattle.std.proofs.Common.{◌≡◌, ◌≢◌, ℕ, suc, ◌≤◌, max, Bool, true, false, ◌⊎◌, inl, inr, List, [], ◌∷◌, ◌++◌, flat_map, append-nil, Option, Some, None, refl, sym, ap, ap₂, ◌∙◌, subst, arith, true≢false, if◌then◌else◌}
+use Rattle.std.proofs.Common.{◌≡◌, ℕ, suc, max, true, false, ◌⊎◌, inl, inr, List, [], ◌∷◌, ◌++◌, flat_map, append-nil, Option, Some, None, refl, sym, ap, ◌∙◌, arith, true≢false}
 use Rattle.dbpl_base.specs.declared.lexeme.Lexeme.{Lexeme}
 use Rattle.dbpl_base.specs.declared.place.Place.{Place}
-use Rattle.dbpl_tree.proofs.Levels.{aggregate_depth-out, aggregate_marks-out, each_depth-out, each_marks-out, element_depth-out, element_marks-out, range_depth-out, range_marks-out}
-use Rattle.dbpl_tree.specs.Depths.{aggregate_depth, arguments_depth, depths, designator_depth, each_depth, each_depth_level, element_depth, element_depth_level, expr_depth, factor_depth, greatest, option_depth, part_depth, range_depth, range_depth_level}
-use Rattle.dbpl_tree.specs.Expressions.{arguments_marks, designator_marks, expr_marks, part_marks}
-use Rattle.dbpl_tree.specs.Factors.{aggregate_marks, each_level, each_marks, element_level, element_marks, factor_marks, range_level, range_marks, spelling}
+use Rattle.dbpl_tree.proofs.Levels.{aggregate_depth-out, aggregate_marks-out, each_depth-out, each_marks-out, element_depth-out, element_marks-out}
+use Rattle.dbpl_tree.specs.Depths.{aggregate_depth, depths, designator_depth, each_depth, element_depth, element_depth_level, expr_depth, factor_depth, greatest, option_depth, part_depth, range_depth}
+use Rattle.dbpl_tree.specs.Expressions.{designator_marks, expr_marks, part_marks}
+use Rattle.dbpl_tree.specs.Factors.{aggregate_marks, each_marks, element_level, element_marks, factor_marks, range_marks, spelling}
 use Rattle.dbpl_tree.specs.Marks.{Mark, Of, Before, between_marks, further_marks, option_marks}
 use Rattle.dbpl_tree.specs.Names.{ident_marks, qual_marks}
 use Rattle.dbpl_tree.specs.Operators.{not_lexeme}
@@ -23,14 +23,13 @@ use Rattle.dbpl_tree.specs.declared.factor.Factor.{Factor}
 use Rattle.dbpl_tree.specs.declared.ident.Ident.{Ident}
 use Rattle.dbpl_tree.specs.declared.ident.Qual.{Qual}
 use Rattle.dbpl_tree.specs.declared.operators.NotOperator.{NotOperator}
-use Rattle.dbpl_tree.specs.declared.range.Range.{Range, Range-F, out-Range, roll-Range, roll-out-Range}
-use Rattle.dbpl_tree.specs.declared.range.Range.TheVariants as ranges
-use Rattle.dbpl_grammar.specs.Expressions.{Inner, aggregate, all_of, are_qual, braced, designator, each, each_of, element, element_first, element_made, expr_first, ident_first, is_qual, not_first, part_first, qual, qual_in, range, range_made, second_of}
-use Rattle.dbpl_grammar.specs.Reading.{Parser, ◌<$>◌, ◌⊗◌, after, many, nothing, optional}
-use Rattle.dbpl_grammar.proofs.ChoiceLaw.{IfThere, law_all, law_either, law_nothing, law_optional, law_wider}
+use Rattle.dbpl_tree.specs.declared.range.Range.{Range}
+use Rattle.dbpl_grammar.specs.Expressions.{Inner, aggregate, all_of, are_qual, braced, each, each_of, element, element_first, element_made, expr_first, ident_first, is_qual, not_first, qual_in, second_of}
+use Rattle.dbpl_grammar.specs.Reading.{◌<$>◌, ◌⊗◌, after, optional}
+use Rattle.dbpl_grammar.proofs.ChoiceLaw.{law_all, law_either, law_wider}
 use Rattle.dbpl_grammar.proofs.Every.{Every, all_those, both, made, maybe, variant}
-use Rattle.dbpl_grammar.proofs.ExprLaw.{expr_more, factor_more, law_designator}
-use Rattle.dbpl_grammar.proofs.JoinLaw.{law_closed, law_made, law_then}
+use Rattle.dbpl_grammar.proofs.ExprLaw.{expr_more, factor_more}
+use Rattle.dbpl_grammar.proofs.JoinLaw.{law_closed}
 use Rattle.dbpl_grammar.proofs.Law.{Law}
 use Rattle.dbpl_grammar.proofs.NameLaw.{law_ident, law_qual}
 use Rattle.dbpl_grammar.proofs.TokenLaw.{law_after, law_here}
@@ -172,12 +171,15 @@ module _ {limit : ℕ} {inner : Inner} (laws : InnerLaw limit inner) where
       unmake : List Element → Option (Element × List Element)
       unmake [] = None
       unmake (x ∷ xs) = Some (x, xs)
+
       again : (xs : List Element) → all_of (unmake xs) ≡ xs
       again [] = refl
       again (x ∷ xs) = refl
+
       marks : (x : Option (Element × List Element)) → braced_marks (all_of x) ≡ Of left_brace ∷ (option_marks (λ (y : Element × List Element). element_marks y.0 ++ flat_map (λ (z : Element). Of comma ∷ element_marks z) y.1) x ++ Of right_brace ∷ [])
       marks None = refl
       marks (Some x) = refl
+
       depth : (x : Option (Element × List Element)) → greatest element_depth (all_of x) ≡ option_depth (λ (y : Element × List Element). max (element_depth y.0) (greatest element_depth y.1)) x
       depth None = refl
       depth (Some x) = refl

@@ -1,16 +1,16 @@
 -- The law of two phrases one behind the other, of a word or sign behind a phrase, and of a tree made of what was read.
-use Rattle.std.proofs.Common.{◌≡◌, ℕ, ◌≤◌, ◌<◌, max, Bool, true, false, not, ◌&&◌, ◌||◌, List, [], ◌∷◌, ◌++◌, length, Result, Ok, Err, refl, sym, ap, ap₂, ◌∙◌, subst, zero-le, le_refl, le_trans, arith, true≢false, if◌then◌else◌}
+use Rattle.std.proofs.Common.{◌≡◌, ℕ, ◌≤◌, max, Bool, true, false, not, ◌&&◌, ◌||◌, List, [], ◌∷◌, ◌++◌, length, Ok, refl, sym, ap, ◌∙◌, subst, le_trans, true≢false}
 use Rattle.std.proofs.lemmas.Bool.{and_parts}
 use Rattle.dbpl_base.specs.declared.lexeme.Lexeme.{Lexeme}
 use Rattle.dbpl_base.specs.declared.token.Token.{Token}
-use Rattle.dbpl_tree.specs.Marks.{Mark, Of, Before, Meets}
-use Rattle.dbpl_grammar.specs.Reading.{Parser, Refused, ◌>>=◌, ◌<$>◌, ◌⊗◌, ◌⊗>◌, after, among, begins, closed, expect, like}
+use Rattle.dbpl_tree.specs.Marks.{Mark, Of, Meets}
+use Rattle.dbpl_grammar.specs.Reading.{Parser, ◌>>=◌, ◌<$>◌, ◌⊗◌, ◌⊗>◌, among, begins, closed, expect}
 use Rattle.dbpl_grammar.proofs.Law.{BeginsBy, Ends, Law, Wrote, by_nothing, by_token}
 use Rattle.dbpl_grammar.proofs.MeetsLaw.{meets_join, meets_shorter, meets_split}
 use Rattle.dbpl_grammar.proofs.Numbers.{max_both, max_left, max_right}
-use Rattle.dbpl_grammar.proofs.Sets.{among_append, apart, apart_so, is_fixed, like_self, outside_so, within, within_so}
+use Rattle.dbpl_grammar.proofs.Sets.{among_append, apart, apart_so, is_fixed, like_self, outside_so, within}
 use Rattle.dbpl_grammar.proofs.SteadyLaw.{steady_closed, steady_map, steady_then}
-use Rattle.dbpl_grammar.proofs.TokenLaw.{both_ok, err_isnt, expect_ok, expect_reads, ok_is}
+use Rattle.dbpl_grammar.proofs.TokenLaw.{both_ok, expect_ok, expect_reads, ok_is}
 
 -- ---- what may stand behind
 

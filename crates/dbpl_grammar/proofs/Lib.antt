@@ -10,6 +10,7 @@ pub mod ManyLaw
 pub mod MeetsLaw
 pub mod NameLaw
 pub mod Numbers
+pub mod OneTree
 pub mod OperatorLaw
 pub mod RangeLaw
 pub mod Sets
@@ -18,3 +19,4 @@ pub mod SteadyLaw
 pub mod TokenLaw
 pub mod TypeLaw
 pub mod UnitLaw
+pub mod WholeLaw

@@ -1,19 +1,19 @@
 -- The law of phrases that stand again and again, and of a word that may stand or not.
-use Rattle.std.proofs.Common.{◌≡◌, ℕ, zero, suc, ◌≤◌, ◌<◌, max, Bool, true, false, not, ◌&&◌, ◌||◌, List, [], ◌∷◌, ◌++◌, length, flat_map, Result, Ok, Err, refl, sym, ap, ap₂, ◌∙◌, subst, zero-le, le_refl, le_trans, not-suc-le-zero, append_assoc, append-nil, arith, true≢false, if◌then◌else◌}
+use Rattle.std.proofs.Common.{◌≡◌, ℕ, zero, suc, ◌≤◌, ◌<◌, Bool, true, false, ◌||◌, List, [], ◌∷◌, ◌++◌, length, flat_map, Ok, refl, sym, ap, ap₂, ◌∙◌, subst, zero-le, le_refl, le_trans, not-suc-le-zero, append_assoc, append-nil, arith, true≢false, if◌then◌else◌}
 use Rattle.dbpl_base.specs.declared.lexeme.Lexeme.{Lexeme}
 use Rattle.dbpl_base.specs.declared.token.Token.{Token}
 use Rattle.dbpl_tree.specs.Depths.{greatest}
-use Rattle.dbpl_tree.specs.Marks.{Mark, Of, Meets, where_marks}
+use Rattle.dbpl_tree.specs.Marks.{Mark, Meets, where_marks}
 use Rattle.dbpl_grammar.specs.Reading.{Parser, Refused, ◌>>=◌, after, among, begins, either, flag, like, many, many_from}
-use Rattle.dbpl_grammar.proofs.ChoiceLaw.{begins_with, law_all, law_either, law_same}
-use Rattle.dbpl_grammar.proofs.JoinLaw.{ends_before, law_made, may_follow}
+use Rattle.dbpl_grammar.proofs.ChoiceLaw.{begins_with}
+use Rattle.dbpl_grammar.proofs.JoinLaw.{ends_before, may_follow}
 use Rattle.dbpl_grammar.proofs.Law.{BeginsBy, Ends, Law, Wrote, by_nothing, by_token}
 use Rattle.dbpl_grammar.proofs.ManyLaw.{Goes, steady_many}
 use Rattle.dbpl_grammar.proofs.MeetsLaw.{meets_join, meets_shorter, meets_split}
 use Rattle.dbpl_grammar.proofs.Numbers.{max_both, max_left, max_right}
-use Rattle.dbpl_grammar.proofs.Sets.{among_append, apart, is_fixed, like_self, within}
+use Rattle.dbpl_grammar.proofs.Sets.{among_append, is_fixed, like_self}
 use Rattle.dbpl_grammar.proofs.SteadyLaw.{steady_after, steady_either, steady_pure}
-use Rattle.dbpl_grammar.proofs.TokenLaw.{both_ok, err, err_isnt, expect_ok, ok, ok_is}
+use Rattle.dbpl_grammar.proofs.TokenLaw.{both_ok, err_isnt, expect_ok, ok, ok_is}
 
 -- each of them is one of those that the law asks for
 abbrev pub EachIs : {A : Type 0} → (A → Type 0) → List A → Type 0
@@ -85,12 +85,15 @@ module _ {A : Type 0} {w : A → List Mark} {n : A → ℕ} {limit : ℕ} {first
       by_begins again true e =
           let one = both_ok (read tokens) (λ next. many_from first read turns (before ++ next.0 ∷ []) next.1) (all, rest) e in
           let front = law.wrote one.0.0 tokens one.0.1 one.1 in
-          let later = again (before ++ one.0.0 ∷ []) one.0.1 one.2 in
-          (one.0.0 ∷ later.0, sym (append_assoc before (one.0.0 ∷ []) later.0) ∙ later.1, record {
-            is = (front.is, later.2.is);
-            fits = max_both (n one.0.0) (greatest n later.0) limit front.fits later.2.fits;
-            meets = meets_join (w one.0.0) (flat_map w later.0) tokens one.0.1 rest front.meets later.2.meets;
-          })
+          let later = again (before ++ one.0.0 ∷ []) one.0.1 one.2 in (
+            one.0.0 ∷ later.0,
+            sym (append_assoc before (one.0.0 ∷ []) later.0) ∙ later.1,
+            record {
+              is = (front.is, later.2.is);
+              fits = max_both (n one.0.0) (greatest n later.0) limit front.fits later.2.fits;
+              meets = meets_join (w one.0.0) (flat_map w later.0) tokens one.0.1 rest front.meets later.2.meets;
+            },
+          )
       by_begins again false e =
           let same = ok_is (before, tokens) (all, rest) e in
           ([], append-nil before ∙ ap (λ (s : List A × List Token). s.0) same, record { is = tt; fits = zero-le; meets = ap (λ (s : List A × List Token). s.1) same })

@@ -1,11 +1,10 @@
 -- A phrase that stands again and again: as many turns as there are tokens are enough, and one more.
-use Rattle.std.proofs.Common.{◌≡◌, ℕ, zero, suc, ◌+◌, ◌≤◌, ◌<◌, max, Bool, true, false, List, [], ◌∷◌, ◌++◌, length, flat_map, Result, Ok, Err, refl, sym, ap, ◌∙◌, subst, append_assoc, append-nil, length-append, not-suc-le-zero, arith, true≢false, if◌then◌else◌}
+use Rattle.std.proofs.Common.{◌≡◌, ℕ, zero, suc, ◌+◌, ◌<◌, Bool, true, false, List, [], ◌∷◌, ◌++◌, length, Result, Ok, Err, refl, sym, ap, ◌∙◌, append_assoc, length-append, not-suc-le-zero, arith, if◌then◌else◌}
 use Rattle.dbpl_base.specs.declared.lexeme.Lexeme.{Lexeme}
 use Rattle.dbpl_base.specs.declared.token.Token.{Token}
-use Rattle.dbpl_tree.specs.Marks.{Mark, Meets}
-use Rattle.dbpl_grammar.specs.Reading.{Parser, Refused, ◌>>=◌, among, begins, many, many_from}
+use Rattle.dbpl_grammar.specs.Reading.{Parser, Refused, ◌>>=◌, begins, many, many_from}
 use Rattle.dbpl_grammar.proofs.Law.{Steady, leaving, left}
-use Rattle.dbpl_grammar.proofs.SteadyLaw.{begins_same, no_head, same_head, steady_through}
+use Rattle.dbpl_grammar.proofs.SteadyLaw.{begins_same, steady_through}
 
 -- each reading takes a token at least
 abbrev pub Goes : {A : Type 0} → Parser A → Type 0
@@ -21,7 +20,7 @@ steady_many_from : {A : Type 0} (set : List Lexeme) (read : Parser A) → ((toke
 steady_many_from set read s goes zero found tokens enough = absurd (not-suc-le-zero enough)
 steady_many_from {A = A} set read s goes (suc turns) found tokens enough = by_begins (λ found tokens enough. steady_many_from set read s goes turns found tokens enough) (begins set tokens) refl
   where
-    by_read : ((found : List A) (tokens : List Token) → length tokens < turns → SteadyMany set read found tokens (many_from set read turns found tokens)) →  begins set tokens ≡ true → (answer : Result (A × List Token) Refused) → read tokens ≡ answer → Steady read tokens answer → SteadyMany set read found tokens (answer >>= λ next. many_from set read turns (found ++ next.0 ∷ []) next.1)
+    by_read : ((found : List A) (tokens : List Token) → length tokens < turns → SteadyMany set read found tokens (many_from set read turns found tokens)) → begins set tokens ≡ true → (answer : Result (A × List Token) Refused) → read tokens ≡ answer → Steady read tokens answer → SteadyMany set read found tokens (answer >>= λ next. many_from set read turns (found ++ next.0 ∷ []) next.1)
     by_read again begun (Err refused) e once = record {
       front = once.front;
       split = once.split;
@@ -52,6 +51,7 @@ steady_many_from {A = A} set read s goes (suc turns) found tokens enough = by_be
             let here : length tokens ≡ length once.front + length next.1 = ap (λ (t : List Token). length t) once.split ∙ length-append once.front next.1 in
             let rest = later.holds token behind other is n (omega arith) in
             rw (begins_too ∙ begun, append_assoc once.front later.front (token ∷ other), first) rest
+
     by_begins : ((found : List A) (tokens : List Token) → length tokens < turns → SteadyMany set read found tokens (many_from set read turns found tokens)) → (b : Bool) → begins set tokens ≡ b → SteadyMany set read found tokens (if b then (read tokens >>= λ next. many_from set read turns (found ++ next.0 ∷ []) next.1) else Ok (found, tokens))
     by_begins again true e = by_read again e (read tokens) refl (s tokens)
     by_begins again false e = record {

@@ -1,17 +1,14 @@
 -- The law of names, and what the tokens with a content mean.
-use Rattle.std.proofs.Common.{◌≡◌, ℕ, max, true, false, List, [], ◌∷◌, Option, Some, None, refl, sym, ap, ◌∙◌, arith}
+use Rattle.std.proofs.Common.{◌≡◌, ℕ, false, List, [], ◌∷◌, Option, Some, None, refl, ap, arith}
 use Rattle.dbpl_base.specs.declared.lexeme.Lexeme.{Lexeme}
 use Rattle.dbpl_base.specs.declared.lexeme.Lexeme.TheVariants as lexemes
-use Rattle.dbpl_tree.specs.Marks.{Of}
 use Rattle.dbpl_tree.specs.Names.{ident_marks, idents_marks, qual_marks}
 use Rattle.dbpl_tree.specs.Words.{comma, full_stop}
 use Rattle.dbpl_tree.specs.declared.ident.Ident.{Ident}
 use Rattle.dbpl_tree.specs.declared.ident.Idents.{Idents}
 use Rattle.dbpl_tree.specs.declared.ident.Qual.{Qual}
 use Rattle.dbpl_grammar.specs.Expressions.{char_code_of, ident, ident_first, idents, name_of, number_of, qual, text_of}
-use Rattle.dbpl_grammar.specs.Reading.{leaf}
 use Rattle.dbpl_grammar.proofs.Every.{Every, all_those, both, made, maybe, shallow_list, shallow_option}
-use Rattle.dbpl_grammar.proofs.Law.{Law}
 use Rattle.dbpl_grammar.proofs.TokenLaw.{law_after, law_here, law_leaf}
 
 pub name_is : (l : Lexeme) (x : List ℕ) → name_of l ≡ Some x → l ≡ lexemes.Ident x

@@ -25,7 +25,7 @@ use Rattle.dbpl_tree.specs.declared.operators.Relation.TheVariants as relations
 use Rattle.dbpl_tree.specs.declared.operators.Relation.{Relation}
 use Rattle.dbpl_tree.specs.declared.operators.SignOperator.TheVariants as signs
 use Rattle.dbpl_tree.specs.declared.operators.SignOperator.{SignOperator}
-use Rattle.std.proofs.Common.{◌≡◌, ℕ, true, false, List, [], ◌∷◌, Some, refl}
+use Rattle.std.proofs.Common.{◌≡◌, ℕ, true, false, [], ◌∷◌, Some, refl}
 
 pub law_relation : (limit : ℕ) → Law (λ (x : Relation). Of (relation_lexeme x) ∷ []) (λ (x : Relation). 0) limit relations_first [] false (λ (x : Relation). Unit {0}) (leaf relation_of)
 unfolding relation_of
@@ -39,6 +39,7 @@ law_relation limit = law_leaf limit relation_of relation_lexeme relations_first 
     means relations.LessEqual = refl
     means relations.Greater = refl
     means relations.GreaterEqual = refl
+
     fixed : (x : Relation) → is_fixed (relation_lexeme x) ≡ true
     fixed relations.Equal = refl
     fixed relations.Hash = refl
@@ -47,8 +48,10 @@ law_relation limit = law_leaf limit relation_of relation_lexeme relations_first 
     fixed relations.LessEqual = refl
     fixed relations.Greater = refl
     fixed relations.GreaterEqual = refl
+
     says : (l : Lexeme) (x : Relation) → relation_of l ≡ Some x → l ≡ relation_lexeme x
     says l x e = table_says relation_lexeme (relations.Equal ∷ relations.Hash ∷ relations.Unequal ∷ relations.Less ∷ relations.LessEqual ∷ relations.Greater ∷ relations.GreaterEqual ∷ []) l x fixed e
+
     begins : (x : Relation) → among relations_first (relation_lexeme x) ≡ true
     begins relations.Equal = refl
     begins relations.Hash = refl
@@ -65,11 +68,14 @@ law_sign limit = law_leaf limit sign_of sign_lexeme signs_first means says begin
     means : (x : SignOperator) → sign_of (sign_lexeme x) ≡ Some x
     means signs.Plus = refl
     means signs.Minus = refl
+
     fixed : (x : SignOperator) → is_fixed (sign_lexeme x) ≡ true
     fixed signs.Plus = refl
     fixed signs.Minus = refl
+
     says : (l : Lexeme) (x : SignOperator) → sign_of l ≡ Some x → l ≡ sign_lexeme x
     says l x e = table_says sign_lexeme (signs.Plus ∷ signs.Minus ∷ []) l x fixed e
+
     begins : (x : SignOperator) → among signs_first (sign_lexeme x) ≡ true
     begins signs.Plus = refl
     begins signs.Minus = refl
@@ -82,12 +88,15 @@ law_adding limit = law_leaf limit adding_of adding_lexeme adding_first means say
     means adding.Plus = refl
     means adding.Minus = refl
     means adding.Or = refl
+
     fixed : (x : AddingOperator) → is_fixed (adding_lexeme x) ≡ true
     fixed adding.Plus = refl
     fixed adding.Minus = refl
     fixed adding.Or = refl
+
     says : (l : Lexeme) (x : AddingOperator) → adding_of l ≡ Some x → l ≡ adding_lexeme x
     says l x e = table_says adding_lexeme (adding.Plus ∷ adding.Minus ∷ adding.Or ∷ []) l x fixed e
+
     begins : (x : AddingOperator) → among adding_first (adding_lexeme x) ≡ true
     begins adding.Plus = refl
     begins adding.Minus = refl
@@ -103,14 +112,17 @@ law_multiplying limit = law_leaf limit multiplying_of multiplying_lexeme multipl
     means multiplying.Mod = refl
     means multiplying.And = refl
     means multiplying.Ampersand = refl
+
     fixed : (x : MultiplyingOperator) → is_fixed (multiplying_lexeme x) ≡ true
     fixed multiplying.Times = refl
     fixed multiplying.Div = refl
     fixed multiplying.Mod = refl
     fixed multiplying.And = refl
     fixed multiplying.Ampersand = refl
+
     says : (l : Lexeme) (x : MultiplyingOperator) → multiplying_of l ≡ Some x → l ≡ multiplying_lexeme x
     says l x e = table_says multiplying_lexeme (multiplying.Times ∷ multiplying.Div ∷ multiplying.Mod ∷ multiplying.And ∷ multiplying.Ampersand ∷ []) l x fixed e
+
     begins : (x : MultiplyingOperator) → among multiplying_first (multiplying_lexeme x) ≡ true
     begins multiplying.Times = refl
     begins multiplying.Div = refl
@@ -125,11 +137,14 @@ law_not limit = law_leaf limit not_of not_lexeme not_first means says begins
     means : (x : NotOperator) → not_of (not_lexeme x) ≡ Some x
     means negation.Not = refl
     means negation.Tilde = refl
+
     fixed : (x : NotOperator) → is_fixed (not_lexeme x) ≡ true
     fixed negation.Not = refl
     fixed negation.Tilde = refl
+
     says : (l : Lexeme) (x : NotOperator) → not_of l ≡ Some x → l ≡ not_lexeme x
     says l x e = table_says not_lexeme (negation.Not ∷ negation.Tilde ∷ []) l x fixed e
+
     begins : (x : NotOperator) → among not_first (not_lexeme x) ≡ true
     begins negation.Not = refl
     begins negation.Tilde = refl
@@ -141,11 +156,14 @@ law_quantifier limit = law_leaf limit quantifier_of quantifier_lexeme quantifier
     means : (x : Quantifier) → quantifier_of (quantifier_lexeme x) ≡ Some x
     means quantifiers.Exists = refl
     means quantifiers.ForAll = refl
+
     fixed : (x : Quantifier) → is_fixed (quantifier_lexeme x) ≡ true
     fixed quantifiers.Exists = refl
     fixed quantifiers.ForAll = refl
+
     says : (l : Lexeme) (x : Quantifier) → quantifier_of l ≡ Some x → l ≡ quantifier_lexeme x
     says l x e = table_says quantifier_lexeme (quantifiers.Exists ∷ quantifiers.ForAll ∷ []) l x fixed e
+
     begins : (x : Quantifier) → among quantifier_first (quantifier_lexeme x) ≡ true
     begins quantifiers.Exists = refl
     begins quantifiers.ForAll = refl
@@ -159,13 +177,16 @@ law_change limit = law_leaf limit change_of change_lexeme change_first means say
     means changes.Add = refl
     means changes.Remove = refl
     means changes.Replace = refl
+
     fixed : (x : ChangeOperator) → is_fixed (change_lexeme x) ≡ true
     fixed changes.Becomes = refl
     fixed changes.Add = refl
     fixed changes.Remove = refl
     fixed changes.Replace = refl
+
     says : (l : Lexeme) (x : ChangeOperator) → change_of l ≡ Some x → l ≡ change_lexeme x
     says l x e = table_says change_lexeme (changes.Becomes ∷ changes.Add ∷ changes.Remove ∷ changes.Replace ∷ []) l x fixed e
+
     begins : (x : ChangeOperator) → among change_first (change_lexeme x) ≡ true
     begins changes.Becomes = refl
     begins changes.Add = refl
@@ -179,11 +200,14 @@ law_routine limit = law_leaf limit routine_of routine_lexeme routine_first means
     means : (x : RoutineWord) → routine_of (routine_lexeme x) ≡ Some x
     means routine_words.Procedure = refl
     means routine_words.Transaction = refl
+
     fixed : (x : RoutineWord) → is_fixed (routine_lexeme x) ≡ true
     fixed routine_words.Procedure = refl
     fixed routine_words.Transaction = refl
+
     says : (l : Lexeme) (x : RoutineWord) → routine_of l ≡ Some x → l ≡ routine_lexeme x
     says l x e = table_says routine_lexeme (routine_words.Procedure ∷ routine_words.Transaction ∷ []) l x fixed e
+
     begins : (x : RoutineWord) → among routine_first (routine_lexeme x) ≡ true
     begins routine_words.Procedure = refl
     begins routine_words.Transaction = refl

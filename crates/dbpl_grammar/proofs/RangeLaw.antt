@@ -1,12 +1,11 @@
 -- The law of ranges: a designator that may be the name of a type, and a brace behind it.
-use Rattle.std.proofs.Common.{◌≡◌, ℕ, suc, ◌≤◌, max, Bool, true, false, ◌⊎◌, inl, inr, List, [], ◌∷◌, ◌++◌, append-nil, Option, Some, None, refl, sym, ap, ap₂, ◌∙◌, subst, arith, true≢false, if◌then◌else◌}
+use Rattle.std.proofs.Common.{◌≡◌, ℕ, suc, max, Bool, true, false, List, [], ◌∷◌, ◌++◌, append-nil, Option, Some, None, refl, sym, ap, ◌∙◌, subst, arith, true≢false, if◌then◌else◌}
 use Rattle.dbpl_base.specs.declared.lexeme.Lexeme.{Lexeme}
 use Rattle.dbpl_tree.proofs.Levels.{aggregate_depth-out, aggregate_marks-out, range_depth-out, range_marks-out}
 use Rattle.dbpl_tree.specs.Depths.{depths, designator_depth, element_depth, factor_depth, greatest, option_depth, range_depth, range_depth_level}
 use Rattle.dbpl_tree.specs.Expressions.{designator_marks}
 use Rattle.dbpl_tree.specs.Factors.{factor_marks, range_level, range_marks, spelling}
 use Rattle.dbpl_tree.specs.Marks.{Mark, option_marks}
-use Rattle.dbpl_tree.specs.Names.{qual_marks}
 use Rattle.dbpl_tree.specs.Words.{left_brace}
 use Rattle.dbpl_tree.specs.declared.aggregate.Aggregate.{Aggregate}
 use Rattle.dbpl_tree.specs.declared.designator.DesignatorOf.{DesignatorOf}
@@ -17,8 +16,8 @@ use Rattle.dbpl_tree.specs.declared.factor.Factor.{Factor}
 use Rattle.dbpl_tree.specs.declared.ident.Ident.{Ident}
 use Rattle.dbpl_tree.specs.declared.range.Range.{Range, Range-F, out-Range, roll-Range, roll-out-Range}
 use Rattle.dbpl_tree.specs.declared.range.Range.TheVariants as ranges
-use Rattle.dbpl_grammar.specs.Expressions.{Inner, braced, designator, ident_first, is_qual, part_first, qual_in, range, range_made}
-use Rattle.dbpl_grammar.specs.Reading.{Parser, nothing, optional}
+use Rattle.dbpl_grammar.specs.Expressions.{Inner, braced, ident_first, is_qual, qual_in, range, range_made}
+use Rattle.dbpl_grammar.specs.Reading.{nothing, optional}
 use Rattle.dbpl_grammar.proofs.ChoiceLaw.{law_all, law_counted, law_nothing, law_wider}
 use Rattle.dbpl_grammar.proofs.Every.{Every, maybe}
 use Rattle.dbpl_grammar.proofs.ExprLaw.{law_designator}
@@ -51,7 +50,6 @@ range_depth_made found (Some xs) is =
   where
     none_before : (j k : ℕ) → j ≡ 0 → suc k ≡ suc (max j k)
     none_before j k e = omega arith
-
 
 range_cases : (y : Range) → (x : DesignatorOf Factor × Option (List Element)) × (Unit {0} × MayBrace x.0 x.1) × (range_made x ≡ y)
 range_cases y = by_level (out-Range y) (roll-out-Range y)

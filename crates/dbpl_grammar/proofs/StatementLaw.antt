@@ -1,9 +1,9 @@
 -- The law of statements.
-use Rattle.std.proofs.Common.{◌≡◌, ℕ, zero, suc, ◌≤◌, max, Bool, true, false, ◌⊎◌, inl, inr, List, [], ◌∷◌, ◌++◌, Option, Some, None, refl, sym, ap, ◌∙◌, subst, arith, not-suc-le-zero}
+use Rattle.std.proofs.Common.{◌≡◌, ℕ, zero, suc, max, true, false, ◌⊎◌, inl, inr, List, [], ◌∷◌, ◌++◌, Option, refl, sym, ap, ◌∙◌, arith, not-suc-le-zero}
 use Rattle.dbpl_base.specs.declared.lexeme.Lexeme.{Lexeme}
 use Rattle.dbpl_base.specs.declared.place.Place.{Place}
 use Rattle.dbpl_tree.proofs.StatementLevels.{statement_depth-out, statement_marks-out}
-use Rattle.dbpl_tree.specs.Depths.{arguments_depth, designator_depth, expr_depth, factor_depth, greatest, option_depth, range_depth}
+use Rattle.dbpl_tree.specs.Depths.{arguments_depth, designator_depth, expr_depth, factor_depth, option_depth, range_depth}
 use Rattle.dbpl_tree.specs.Expressions.{arguments_marks, designator_marks, expr_marks}
 use Rattle.dbpl_tree.specs.Factors.{factor_marks, range_marks}
 use Rattle.dbpl_tree.specs.Marks.{Mark, Of, Before, option_marks}
@@ -27,9 +27,9 @@ use Rattle.dbpl_tree.specs.declared.statement.Statement.{Statement, Statement-F,
 use Rattle.dbpl_tree.specs.declared.statement.Statement.TheOpen as kinds
 use Rattle.dbpl_tree.specs.declared.statement.Statement.TheVariants as of_statement
 use Rattle.dbpl_tree.specs.declared.statements.StatementsOf.{StatementsOf}
-use Rattle.dbpl_grammar.specs.Expressions.{Inner, arguments, at_depth, designator, expr_first, ident_first}
+use Rattle.dbpl_grammar.specs.Expressions.{Inner, arguments, expr_first, ident_first}
 use Rattle.dbpl_grammar.specs.Lexemes.{an_ident}
-use Rattle.dbpl_grammar.specs.Reading.{Parser, ◌<$>◌, ◌⊗◌, after, closed, here, leaf, many, optional}
+use Rattle.dbpl_grammar.specs.Reading.{Parser, ◌<$>◌, ◌⊗◌, after, here, leaf, many, optional}
 use Rattle.dbpl_grammar.specs.Statements.{Acts, Calls, Changes, Counts, Loops, Ranges, action, action_made, acts, case_statement, case_with, change_first, change_of, counts, elsif, exit_statement, for_made, for_statement, if_statement, label, loop_statement, otherwise, ranges, repeat_statement, return_statement, statement_with, statement_words, statements_after, statements_at, statements_with, while_statement}
 use Rattle.dbpl_grammar.proofs.ChoiceLaw.{law_all, law_counted, law_deep, law_either, law_wider}
 use Rattle.dbpl_grammar.proofs.Every.{Every, all_those, both, made, maybe, variant}

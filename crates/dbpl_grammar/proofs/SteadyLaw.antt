@@ -1,10 +1,10 @@
 -- An answer rests on the tokens up to the first one left: of single tokens, of two readings one behind the other, and of
 -- a choice by the first token.
-use Rattle.std.proofs.Common.{◌≡◌, ℕ, Bool, true, false, List, [], ◌∷◌, ◌++◌, Option, Some, None, Result, Ok, Err, length, ◌<◌, length-append, arith, suc, zero, true≢false, refl, sym, ap, ◌∙◌, subst, append_assoc, if◌then◌else◌}
+use Rattle.std.proofs.Common.{◌≡◌, Bool, true, false, List, [], ◌∷◌, ◌++◌, Option, Some, None, Result, Ok, Err, refl, sym, ap, ◌∙◌, append_assoc, if◌then◌else◌}
 use Rattle.dbpl_base.specs.declared.lexeme.Lexeme.{Lexeme}
 use Rattle.dbpl_base.specs.declared.token.Token.{Token}
-use Rattle.dbpl_grammar.specs.Reading.{Parser, Reason, Refused, ◌>>=◌, ◌<$>◌, ◌⊗◌, ◌⊗>◌, after, among, begins, closed, either, expect, found_or, here, leaf, like, many, many_from, nothing, optional, too_deep}
-use Rattle.dbpl_grammar.proofs.Law.{Steady, leaving, left}
+use Rattle.dbpl_grammar.specs.Reading.{Parser, Reason, Refused, ◌>>=◌, ◌<$>◌, ◌⊗>◌, after, begins, closed, either, found_or, here, leaf, like}
+use Rattle.dbpl_grammar.proofs.Law.{Steady, left}
 
 -- a reading with whatever follows from what it found
 abbrev pub follow : {A B : Type 0} → Parser A → (A → Parser B) → Parser B
@@ -31,9 +31,9 @@ steady_follow {A = A} {B = B} read next tokens s later = by_answer (read tokens)
           front = s.front ++ inner.front;
           split = s.split ∙ ap (λ (t : List Token). s.front ++ t) inner.split ∙ sym (append_assoc s.front inner.front (left (next found.0 found.1)));
           holds = λ token behind other is.
-            let first = steady_through read tokens found.0 found.1 s inner.front token behind other (inner.split ∙ ap (λ (t : List Token). inner.front ++ t) is) in
-            let second = inner.holds token behind other is in
-            rw (append_assoc s.front inner.front (token ∷ other), first) second;
+              let first = steady_through read tokens found.0 found.1 s inner.front token behind other (inner.split ∙ ap (λ (t : List Token). inner.front ++ t) is) in
+              let second = inner.holds token behind other is in
+              rw (append_assoc s.front inner.front (token ∷ other), first) second;
         }
 
 -- ---- single tokens and nothing
@@ -60,7 +60,7 @@ steady_here (first ∷ tokens) = record {
   front = [];
   split = refl;
   holds = λ token behind other is.
-    ap (λ (t : Token). Ok (t.place, token ∷ other)) (sym (same_head first token tokens behind is));
+      ap (λ (t : Token). Ok (t.place, token ∷ other)) (sym (same_head first token tokens behind is));
 }
 
 pub steady_leaf : {A : Type 0} (meaning : Lexeme → Option A) (tokens : List Token) → Steady (leaf meaning) tokens (leaf meaning tokens)
@@ -72,8 +72,8 @@ steady_leaf {A = A} meaning (first ∷ tokens) = by_meaning (meaning first.lexem
       front = [];
       split = refl;
       holds = λ token behind other is.
-        (let none : meaning token.lexeme ≡ None = ap (λ (t : Token). meaning t.lexeme) (sym (same_head first token tokens behind is)) ∙ e in
-        rw none refl);
+          (let none : meaning token.lexeme ≡ None = ap (λ (t : Token). meaning t.lexeme) (sym (same_head first token tokens behind is)) ∙ e in
+          rw none refl);
     }
     by_meaning (Some found) e = record { front = first ∷ []; split = refl; holds = λ token behind other is. rw e refl }
 
@@ -91,8 +91,8 @@ steady_after lexeme read s (first ∷ tokens) = by_like (like lexeme first.lexem
       front = [];
       split = refl;
       holds = λ token behind other is.
-        (let unlike : like lexeme token.lexeme ≡ false = ap (λ (t : Token). like lexeme t.lexeme) (sym (same_head first token tokens behind is)) ∙ e in
-        rw unlike refl);
+          (let unlike : like lexeme token.lexeme ≡ false = ap (λ (t : Token). like lexeme t.lexeme) (sym (same_head first token tokens behind is)) ∙ e in
+          rw unlike refl);
     }
 
 -- ---- one behind the other
@@ -123,11 +123,11 @@ steady_either {A = A} set read other s o tokens = by_begins (begins set tokens) 
       front = (s tokens).front;
       split = (s tokens).split;
       holds = λ token behind more is.
-        rw (begins_same set tokens (s tokens).front (left (read tokens)) token behind more (s tokens).split is ∙ e) ((s tokens).holds token behind more is);
+          rw (begins_same set tokens (s tokens).front (left (read tokens)) token behind more (s tokens).split is ∙ e) ((s tokens).holds token behind more is);
     }
     by_begins false e = record {
       front = (o tokens).front;
       split = (o tokens).split;
       holds = λ token behind more is.
-        rw (begins_same set tokens (o tokens).front (left (other tokens)) token behind more (o tokens).split is ∙ e) ((o tokens).holds token behind more is);
+          rw (begins_same set tokens (o tokens).front (left (other tokens)) token behind more (o tokens).split is ∙ e) ((o tokens).holds token behind more is);
     }

@@ -1,14 +1,14 @@
 -- The law of single tokens, of a token in front of a phrase and of one behind it.
-use Rattle.std.proofs.Common.{◌≡◌, ℕ, ◌≤◌, ◌<◌, Bool, true, false, ◌||◌, List, [], ◌∷◌, ◌++◌, length, Option, Some, None, Result, Ok, Err, refl, sym, ap, ap₂, ◌∙◌, subst, zero-le, le_refl, arith, true≢false, if◌then◌else◌}
+use Rattle.std.proofs.Common.{◌≡◌, ℕ, Bool, true, false, ◌||◌, List, [], ◌∷◌, length, Option, Some, None, Result, Ok, Err, refl, ap, ap₂, ◌∙◌, zero-le, arith, if◌then◌else◌}
 use Rattle.dbpl_base.specs.declared.lexeme.Lexeme.{Lexeme}
 use Rattle.dbpl_base.specs.declared.place.Place.{Place}
 use Rattle.dbpl_base.specs.declared.token.Token.{Token}
 use Rattle.dbpl_tree.specs.Marks.{Mark, Of, Before, Meets}
-use Rattle.dbpl_grammar.specs.Reading.{Parser, Refused, ◌>>=◌, after, among, begins, by_table, closed, expect, found_or, here, leaf, like, wrong}
-use Rattle.dbpl_grammar.proofs.Law.{BeginsBy, Ends, Law, Wrote, by_nothing, by_token}
-use Rattle.dbpl_grammar.proofs.MeetsLaw.{meets_join, meets_shorter, meets_split}
+use Rattle.dbpl_grammar.specs.Reading.{Parser, Refused, ◌>>=◌, after, among, begins, by_table, expect, found_or, here, leaf, like, wrong}
+use Rattle.dbpl_grammar.proofs.Law.{BeginsBy, Law, Wrote, by_nothing, by_token}
+use Rattle.dbpl_grammar.proofs.MeetsLaw.{meets_join, meets_shorter}
 use Rattle.dbpl_grammar.proofs.Sets.{fixed_is, is_fixed, like_self}
-use Rattle.dbpl_grammar.proofs.SteadyLaw.{steady_after, steady_closed, steady_here, steady_leaf}
+use Rattle.dbpl_grammar.proofs.SteadyLaw.{steady_after, steady_here, steady_leaf}
 
 -- each tree
 abbrev pub Any : {A : Type 0} → A → Type 0

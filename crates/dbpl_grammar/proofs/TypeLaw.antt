@@ -1,11 +1,8 @@
 -- The law of types.
-use Rattle.std.proofs.Common.{◌≡◌, ℕ, zero, suc, ◌≤◌, max, Bool, true, false, ◌⊎◌, inl, inr, List, [], ◌∷◌, ◌++◌, append_assoc, Option, Some, None, refl, sym, ap, ap₂, ◌∙◌, subst, arith, not-suc-le-zero}
+use Rattle.std.proofs.Common.{◌≡◌, ℕ, zero, suc, ◌≤◌, true, false, ◌⊎◌, inl, inr, List, [], ◌∷◌, ◌++◌, append_assoc, refl, sym, ap, ◌∙◌, subst, arith, not-suc-le-zero}
 use Rattle.dbpl_base.specs.declared.lexeme.Lexeme.{Lexeme}
 use Rattle.dbpl_base.specs.declared.place.Place.{Place}
 use Rattle.dbpl_tree.proofs.StatementLevels.{type_depth-out, type_marks-out}
-use Rattle.dbpl_tree.specs.Depths.{expr_depth, factor_depth, greatest}
-use Rattle.dbpl_tree.specs.Expressions.{expr_marks}
-use Rattle.dbpl_tree.specs.Factors.{factor_marks}
 use Rattle.dbpl_tree.specs.Marks.{Mark, Of, Before, further_marks}
 use Rattle.dbpl_tree.specs.TypeTrees.{fields_marks, type_level, type_marks}
 use Rattle.dbpl_tree.specs.UnitDepths.{fields_depth, type_depth, type_depth_level}
@@ -19,12 +16,11 @@ use Rattle.dbpl_tree.specs.declared.type_tree.FieldsOf.TheVariants as fields_of
 use Rattle.dbpl_tree.specs.declared.type_tree.TypeTree.{TypeTree, TypeTree-F, out-TypeTree, roll-TypeTree, roll-out-TypeTree}
 use Rattle.dbpl_tree.specs.declared.type_tree.TypeTree.TheOpen as open_types
 use Rattle.dbpl_tree.specs.declared.type_tree.TypeTree.TheVariants as types
-use Rattle.dbpl_grammar.specs.Expressions.{Inner, at_depth, ident_first, idents, qual}
+use Rattle.dbpl_grammar.specs.Expressions.{Inner, ident_first, idents, qual}
 use Rattle.dbpl_grammar.specs.Reading.{Parser, ◌<$>◌, ◌⊗◌, after, here}
 use Rattle.dbpl_grammar.specs.Types.{array, enumeration, fields, record_type, relation_type, subrange, type_at, type_first, type_with}
 use Rattle.dbpl_grammar.proofs.ChoiceLaw.{law_all, law_counted, law_deep, law_either, law_wider}
-use Rattle.dbpl_grammar.proofs.Every.{Every, all_those, both, made, maybe, variant}
-use Rattle.dbpl_grammar.proofs.ExprLaw.{expr_more}
+use Rattle.dbpl_grammar.proofs.Every.{Every, all_those, both, variant}
 use Rattle.dbpl_grammar.proofs.FactorLaw.{inner_law}
 use Rattle.dbpl_grammar.proofs.InnerLaw.{InnerLaw}
 use Rattle.dbpl_grammar.proofs.JoinLaw.{law_closed}

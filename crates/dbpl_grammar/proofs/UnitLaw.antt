@@ -1,14 +1,14 @@
 -- The law of headings, declarations, imports and units.
-use Rattle.std.proofs.Common.{◌≡◌, ℕ, suc, ◌≤◌, max, Bool, true, false, ◌⊎◌, inl, inr, List, [], ◌∷◌, ◌++◌, flat_map, Option, Some, None, refl, sym, ap, ◌∙◌, arith}
+use Rattle.std.proofs.Common.{◌≡◌, ℕ, max, true, false, ◌⊎◌, inl, inr, List, [], ◌∷◌, ◌++◌, flat_map, Option, Some, None, refl, ap, arith}
 use Rattle.dbpl_base.specs.declared.lexeme.Lexeme.{Lexeme}
 use Rattle.dbpl_base.specs.declared.lexeme.Lexeme.TheVariants.{Finish}
 use Rattle.dbpl_base.specs.declared.place.Place.{Place}
 use Rattle.dbpl_tree.specs.Declarations.{body_marks, common_marks, const_marks, decl_marks, heading_marks, item_marks, params_marks, plain_marks, routine_marks, section_marks, signature_marks, type_decl_marks, var_marks}
-use Rattle.dbpl_tree.specs.Depths.{aggregate_depth, expr_depth, factor_depth, greatest, option_depth}
-use Rattle.dbpl_tree.specs.Marks.{Mark, Of, Before, between_marks, option_marks}
+use Rattle.dbpl_tree.specs.Depths.{expr_depth, factor_depth, greatest, option_depth}
+use Rattle.dbpl_tree.specs.Marks.{Of, Before, option_marks}
 use Rattle.dbpl_tree.specs.UnitDepths.{body_depth, common_depth, decl_depth, item_depth, plain_depth, program_depth, routine_depth, type_depth, unit_depth}
 use Rattle.dbpl_tree.specs.Units.{data_marks, definition_marks, import_marks, program_marks, text_marks, unit_marks}
-use Rattle.dbpl_tree.specs.Words.{colon, comma, equal_sign, full_stop, left_parenthesis, right_parenthesis, semicolon, word_begin, word_const, word_constructor, word_database, word_definition, word_end, word_for, word_from, word_implementation, word_import, word_in, word_module, word_selector, word_type, word_var}
+use Rattle.dbpl_tree.specs.Words.{colon, equal_sign, full_stop, left_parenthesis, right_parenthesis, semicolon, word_begin, word_const, word_constructor, word_database, word_definition, word_end, word_for, word_from, word_implementation, word_import, word_in, word_module, word_selector, word_type, word_var}
 use Rattle.dbpl_tree.specs.declared.aggregate.Aggregate.{Aggregate}
 use Rattle.dbpl_tree.specs.declared.decl.Common.{Common}
 use Rattle.dbpl_tree.specs.declared.decl.Common.TheVariants as commons
@@ -39,12 +39,12 @@ use Rattle.dbpl_tree.specs.declared.unit.Program.{Program}
 use Rattle.dbpl_tree.specs.declared.unit.Unit.{Unit as Module}
 use Rattle.dbpl_tree.specs.declared.unit.Unit.TheVariants as units
 use Rattle.dbpl_grammar.specs.Expressions.{all_of, ident_first}
-use Rattle.dbpl_grammar.specs.Reading.{Parser, ◌<$>◌, closed}
+use Rattle.dbpl_grammar.specs.Reading.{closed}
 use Rattle.dbpl_grammar.specs.Units.{body, common, common_first, const_decl, constants, constructor, data_unit, decl, decl_first, definition_item, definition_unit, heading, implementation, import, import_first, import_from, import_whole, params, plain_decl, plain_first, program, routine, routine_first, section, section_first, selector, signature, type_decl, types, unit, var_decl, variables}
 use Rattle.dbpl_grammar.proofs.ChoiceLaw.{law_all, law_either, law_wider}
 use Rattle.dbpl_grammar.proofs.Every.{Every, all_those, both, made, maybe, shallow_list, shallow_option, variant}
 use Rattle.dbpl_grammar.proofs.FactorLaw.{inner_law}
-use Rattle.dbpl_grammar.proofs.InnerLaw.{InnerLaw, law_aggregate}
+use Rattle.dbpl_grammar.proofs.InnerLaw.{law_aggregate}
 use Rattle.dbpl_grammar.proofs.JoinLaw.{law_closed}
 use Rattle.dbpl_grammar.proofs.Law.{Law}
 use Rattle.dbpl_grammar.proofs.ListLaw.{law_flag}
@@ -61,7 +61,7 @@ unfolding section
 law_section limit =
     made section_marks (λ (x : Section). 0) (both (law_here limit) (both (law_flag limit word_var refl) (both (law_idents limit) (law_after colon refl (law_qual limit)) refl) refl) refl) (λ found. record { place = found.0; by_reference = found.1.0; names = found.1.1.0; kind = found.1.1.1 }) (λ x. (x.place, (x.by_reference, (x.names, x.kind)))) (λ x. refl) (λ x. refl) (λ x. refl)
 
-law_params : (limit : ℕ) → Every params_marks (λ (x : Params). 0) limit (left_parenthesis ∷ []) [] false params
+pub law_params : (limit : ℕ) → Every params_marks (λ (x : Params). 0) limit (left_parenthesis ∷ []) [] false params
 unfolding params
 law_params limit =
     made params_marks (λ (x : Params). 0) (both (law_here limit) (law_after left_parenthesis refl (law_closed right_parenthesis refl refl (maybe (both (law_section limit) (all_those (law_after semicolon refl (law_section limit)) refl) refl)))) refl) (λ found. record { place = found.0; sections = all_of found.1 }) (λ x. (x.place, unmake x.sections)) (λ x. marks x.0 x.1) (λ x. let none = shallow x.1 in omega arith) (λ x. ap (λ (xs : List Section). record { place = x.place; sections = xs }) (again x.sections))
@@ -69,12 +69,15 @@ law_params limit =
     unmake : List Section → Option (Section × List Section)
     unmake [] = None
     unmake (x ∷ xs) = Some (x, xs)
+
     again : (xs : List Section) → all_of (unmake xs) ≡ xs
     again [] = refl
     again (x ∷ xs) = refl
+
     marks : (place : Place) (x : Option (Section × List Section)) → params_marks (record { place = place; sections = all_of x }) ≡ Before place ∷ Of left_parenthesis ∷ (option_marks (λ (y : Section × List Section). section_marks y.0 ++ flat_map (λ (z : Section). Of semicolon ∷ section_marks z) y.1) x ++ Of right_parenthesis ∷ [])
     marks place None = refl
     marks place (Some x) = refl
+
     shallow : (x : Option (Section × List Section)) → option_depth (λ (y : Section × List Section). max 0 (greatest (λ (z : Section). 0) y.1)) x ≡ 0
     shallow None = refl
     shallow (Some x) = let none = shallow_list x.1 in omega arith
@@ -84,7 +87,7 @@ unfolding signature
 law_signature limit =
     made signature_marks (λ (x : Signature). 0) (both (law_params limit) (maybe (law_after colon refl (law_qual limit))) refl) (λ found. record { params = found.0; result = found.1 }) (λ x. (x.params, x.result)) (λ x. refl) (λ x. let none = shallow_option x.1 in omega arith) (λ x. refl)
 
-law_heading : (limit : ℕ) → Every heading_marks (λ (x : Heading). 0) limit routine_first (left_parenthesis ∷ colon ∷ full_stop ∷ []) false heading
+pub law_heading : (limit : ℕ) → Every heading_marks (λ (x : Heading). 0) limit routine_first (left_parenthesis ∷ colon ∷ full_stop ∷ []) false heading
 unfolding heading
 law_heading limit =
     made heading_marks (λ (x : Heading). 0) (both (law_here limit) (both (law_routine limit) (both (law_ident limit) (maybe (law_signature limit)) refl) refl) refl) (λ found. record { place = found.0; word = found.1.0; name = found.1.1.0; signature = found.1.1.1 }) (λ x. (x.place, (x.word, (x.name, x.signature)))) (λ x. refl) (λ x. let none = shallow_option x.1.1.1 in omega arith) (λ x. refl)
@@ -130,7 +133,7 @@ unfolding variables
 law_variables limit =
     variant plain_marks plain_depth (both (law_here limit) (law_after word_var refl (all_those (law_var_decl limit) refl)) refl) (λ found. plain.Var found.0 found.1) (λ x. refl) (λ x. omega arith)
 
-law_plain_decl : (limit : ℕ) → Every plain_marks plain_depth limit plain_first ident_first false (plain_decl limit)
+pub law_plain_decl : (limit : ℕ) → Every plain_marks plain_depth limit plain_first ident_first false (plain_decl limit)
 unfolding plain_decl
 law_plain_decl limit =
     law_all (λ (y : PlainDecl). Unit {0}) (λ y is. cases y) (λ y is. tt) (law_either (law_constants limit) (law_either (law_types limit) (law_variables limit) refl) refl)
@@ -161,7 +164,7 @@ unfolding constructor
 law_constructor limit =
     law_wider (word_constructor ∷ []) ident_first refl refl (variant common_marks common_depth (both (law_here limit) (law_after word_constructor refl (both (law_ident limit) (both (maybe (law_params limit)) (law_after colon refl (law_closed semicolon refl refl (law_aggregate (inner_law limit)))) refl) refl)) refl) (λ found. commons.Constructor found.0 found.1.0 found.1.1.0 found.1.1.1) (λ x. refl) (λ x. let none = shallow_option x.1.1.0 in omega arith))
 
-law_common : (limit : ℕ) → Every common_marks common_depth limit common_first ident_first false (common limit)
+pub law_common : (limit : ℕ) → Every common_marks common_depth limit common_first ident_first false (common limit)
 unfolding common
 law_common limit =
     law_all (λ (y : Common). Unit {0}) (λ y is. cases y) (λ y is. tt) (law_either (law_selector limit) (law_either (law_constructor limit) (variant common_marks common_depth (law_plain_decl limit) commons.Plain (λ x. refl) (λ x. refl)) refl) refl)
@@ -180,7 +183,7 @@ unfolding routine
 law_routine_decl limit =
     made routine_marks routine_depth (both (law_heading limit) (law_after semicolon refl (both (all_those (law_plain_decl limit) refl) (both (law_body limit) (both (law_here limit) (law_after word_end refl (law_closed semicolon refl refl (law_ident limit))) refl) refl) refl)) refl) (λ found. record { heading = found.0; declarations = found.1.0; body = found.1.1.0; end = found.1.1.1.0; end_name = found.1.1.1.1 }) (λ x. (x.heading, (x.declarations, (x.body, (x.end, x.end_name))))) (λ x. refl) (λ x. omega arith) (λ x. refl)
 
-law_decl : (limit : ℕ) → Every decl_marks decl_depth limit decl_first ident_first false (decl limit)
+pub law_decl : (limit : ℕ) → Every decl_marks decl_depth limit decl_first ident_first false (decl limit)
 unfolding decl
 law_decl limit =
     law_all (λ (y : Decl). Unit {0}) (λ y is. cases y) (λ y is. tt) (law_either (law_wider routine_first ident_first refl refl (variant decl_marks decl_depth (law_routine_decl limit) decls.Routine (λ x. refl) (λ x. refl))) (variant decl_marks decl_depth (law_common limit) decls.Common (λ x. refl) (λ x. refl)) refl)
@@ -189,7 +192,7 @@ law_decl limit =
     cases (decls.Routine x) = inl (x, refl)
     cases (decls.Common x) = inr (x, refl)
 
-law_item : (limit : ℕ) → Every item_marks item_depth limit decl_first ident_first false (definition_item limit)
+pub law_item : (limit : ℕ) → Every item_marks item_depth limit decl_first ident_first false (definition_item limit)
 unfolding definition_item
 law_item limit =
     law_all (λ (y : DefinitionItem). Unit {0}) (λ y is. cases y) (λ y is. tt) (law_either (law_wider routine_first ident_first refl refl (variant item_marks item_depth (law_closed semicolon refl refl (law_heading limit)) items.Heading (λ x. refl) (λ x. refl))) (variant item_marks item_depth (law_common limit) items.Common (λ x. refl) (λ x. refl)) refl)
@@ -200,7 +203,7 @@ law_item limit =
 
 -- ---- units
 
-law_import : (limit : ℕ) → Every import_marks (λ (x : Import). 0) limit import_first [] false import
+pub law_import : (limit : ℕ) → Every import_marks (λ (x : Import). 0) limit import_first [] false import
 unfolding import import_whole import_from
 law_import limit =
     law_all (λ (y : Import). Unit {0}) (λ y is. cases y) (λ y is. tt) (law_either (variant import_marks (λ (x : Import). 0) (both (law_here limit) (law_after word_import refl (law_closed semicolon refl refl (law_idents limit))) refl) (λ found. imports.Whole found.0 found.1) (λ x. refl) (λ x. refl)) (variant import_marks (λ (x : Import). 0) (both (law_here limit) (law_after word_from refl (both (law_ident limit) (law_after word_import refl (law_closed semicolon refl refl (law_idents limit))) refl)) refl) (λ found. imports.From found.0 found.1.0 found.1.1) (λ x. refl) (λ x. refl)) refl)
