@@ -158,17 +158,17 @@ module _ {limit : ℕ} {inner : Inner} (laws : InnerLaw limit inner) where
   law_number : Law factor_marks factor_depth limit (a_number ∷ []) factor_more false IsNumber number
   unfolding number
   law_number =
-      law_wider (a_number ∷ []) factor_more refl refl (variant factor_marks factor_depth (both (law_here limit) (law_leaf limit number_of lexemes.Number (a_number ∷ []) (λ x. refl) number_is (λ x. refl)) refl) (λ found. factors.Number found.0 found.1) (λ x. factor_as (factors.Number x.0 x.1) _ (factors.outs-Number x.0 x.1)) (λ x. factor_deep (factors.Number x.0 x.1) _ (factors.outs-Number x.0 x.1)))
+      law_wider (a_number ∷ []) factor_more refl refl (variant factor_marks factor_depth (both (law_here limit) (law_leaf limit number_of lexemes.Number (a_number ∷ []) refl (λ x. refl) number_is (λ x. refl)) refl) (λ found. factors.Number found.0 found.1) (λ x. factor_as (factors.Number x.0 x.1) _ (factors.outs-Number x.0 x.1)) (λ x. factor_deep (factors.Number x.0 x.1) _ (factors.outs-Number x.0 x.1)))
 
   law_char_code : Law factor_marks factor_depth limit (a_char_code ∷ []) factor_more false IsCharCode char_code
   unfolding char_code
   law_char_code =
-      law_wider (a_char_code ∷ []) factor_more refl refl (variant factor_marks factor_depth (both (law_here limit) (law_leaf limit char_code_of lexemes.CharCode (a_char_code ∷ []) (λ x. refl) char_code_is (λ x. refl)) refl) (λ found. factors.CharCode found.0 found.1) (λ x. factor_as (factors.CharCode x.0 x.1) _ (factors.outs-CharCode x.0 x.1)) (λ x. factor_deep (factors.CharCode x.0 x.1) _ (factors.outs-CharCode x.0 x.1)))
+      law_wider (a_char_code ∷ []) factor_more refl refl (variant factor_marks factor_depth (both (law_here limit) (law_leaf limit char_code_of lexemes.CharCode (a_char_code ∷ []) refl (λ x. refl) char_code_is (λ x. refl)) refl) (λ found. factors.CharCode found.0 found.1) (λ x. factor_as (factors.CharCode x.0 x.1) _ (factors.outs-CharCode x.0 x.1)) (λ x. factor_deep (factors.CharCode x.0 x.1) _ (factors.outs-CharCode x.0 x.1)))
 
   law_text : Law factor_marks factor_depth limit (a_text ∷ []) factor_more false IsText text
   unfolding text
   law_text =
-      law_wider (a_text ∷ []) factor_more refl refl (variant factor_marks factor_depth (both (law_here limit) (law_leaf limit text_of lexemes.Text (a_text ∷ []) (λ x. refl) text_is (λ x. refl)) refl) (λ found. factors.Text found.0 found.1) (λ x. factor_as (factors.Text x.0 x.1) _ (factors.outs-Text x.0 x.1)) (λ x. factor_deep (factors.Text x.0 x.1) _ (factors.outs-Text x.0 x.1)))
+      law_wider (a_text ∷ []) factor_more refl refl (variant factor_marks factor_depth (both (law_here limit) (law_leaf limit text_of lexemes.Text (a_text ∷ []) refl (λ x. refl) text_is (λ x. refl)) refl) (λ found. factors.Text found.0 found.1) (λ x. factor_as (factors.Text x.0 x.1) _ (factors.outs-Text x.0 x.1)) (λ x. factor_deep (factors.Text x.0 x.1) _ (factors.outs-Text x.0 x.1)))
 
   law_parenthesized : Law factor_marks factor_depth limit (left_parenthesis ∷ []) factor_more false IsParenthesized (parenthesized inner)
   unfolding parenthesized

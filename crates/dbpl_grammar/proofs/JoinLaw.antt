@@ -8,7 +8,7 @@ use Rattle.dbpl_grammar.specs.Reading.{Parser, ◌>>=◌, ◌<$>◌, ◌⊗◌, 
 use Rattle.dbpl_grammar.proofs.Law.{BeginsBy, Ends, Law, Wrote, by_nothing, by_token}
 use Rattle.dbpl_grammar.proofs.MeetsLaw.{meets_join, meets_shorter, meets_split}
 use Rattle.dbpl_grammar.proofs.Numbers.{max_both, max_left, max_right}
-use Rattle.dbpl_grammar.proofs.Sets.{among_append, apart, apart_so, is_fixed, like_self, outside_so, within}
+use Rattle.dbpl_grammar.proofs.Sets.{among_append, apart, apart_so, is_word, like_self, word_fixed, word_no_end, outside_so, within}
 use Rattle.dbpl_grammar.proofs.SteadyLaw.{steady_closed, steady_map, steady_then}
 use Rattle.dbpl_grammar.proofs.TokenLaw.{both_ok, expect_ok, expect_reads, ok_is}
 
@@ -107,16 +107,16 @@ law_seq law later follows = law_then law (λ found is. later) follows
 
 -- ---- a word or sign behind
 
-token_begins : (lexeme : Lexeme) (tokens rest : List Token) → Meets tokens (Of lexeme ∷ []) rest → BeginsBy (lexeme ∷ []) false tokens rest
+pub token_begins : (lexeme : Lexeme) (tokens rest : List Token) → Meets tokens (Of lexeme ∷ []) rest → BeginsBy (lexeme ∷ []) false tokens rest
 token_begins lexeme [] rest m = absurd m
 token_begins lexeme (token ∷ tokens) rest m =
     by_token token tokens refl (ap (among (lexeme ∷ [])) m.0 ∙ ap (λ (b : Bool). b || false) (like_self lexeme)) (meets_shorter [] tokens rest m.1)
 
-expect_meets : (lexeme : Lexeme) (tokens rest : List Token) → Meets tokens (Of lexeme ∷ []) rest → expect lexeme tokens ≡ Ok rest
+pub expect_meets : (lexeme : Lexeme) (tokens rest : List Token) → Meets tokens (Of lexeme ∷ []) rest → expect lexeme tokens ≡ Ok rest
 expect_meets lexeme [] rest m = absurd m
 expect_meets lexeme (token ∷ tokens) rest m = expect_reads lexeme token tokens m.0 ∙ ap (λ (t : List Token). Ok t) m.1
 
-module _ {A : Type 0} {w : A → List Mark} {n : A → ℕ} {limit : ℕ} {first more : List Lexeme} {empty : Bool} {Is : A → Type 0} {read : Parser A} (lexeme : Lexeme) (fixed : is_fixed lexeme ≡ true) (ends : apart (lexeme ∷ []) more ≡ true) (law : Law w n limit first more empty Is read) where
+module _ {A : Type 0} {w : A → List Mark} {n : A → ℕ} {limit : ℕ} {first more : List Lexeme} {empty : Bool} {Is : A → Type 0} {read : Parser A} (lexeme : Lexeme) (fixed : is_word lexeme ≡ true) (ends : apart (lexeme ∷ []) more ≡ true) (law : Law w n limit first more empty Is read) where
   closed_begins : (found : A) (tokens rest : List Token) → Is found → n found ≤ limit → Meets tokens (w found ++ Of lexeme ∷ []) rest → BeginsBy (first_of empty first (lexeme ∷ [])) (empty && false) tokens rest
   closed_begins found tokens rest is fits meets =
       let parts = meets_split (w found) (Of lexeme ∷ []) tokens rest meets in
@@ -143,7 +143,7 @@ module _ {A : Type 0} {w : A → List Mark} {n : A → ℕ} {limit : ℕ} {first
       subst (λ (s : A × List Token). Wrote (λ (x : A). w x ++ Of lexeme ∷ []) n limit Is s.0 tokens s.1) {x = (one.0.0, two.0)} same (record {
         is = front.is;
         fits = front.fits;
-        meets = meets_join (w one.0.0) (Of lexeme ∷ []) tokens one.0.1 two.0 front.meets (expect_ok lexeme one.0.1 two.0 fixed two.1);
+        meets = meets_join (w one.0.0) (Of lexeme ∷ []) tokens one.0.1 two.0 front.meets (expect_ok lexeme one.0.1 two.0 (word_fixed lexeme fixed) two.1);
       })
 
   pub law_closed : Law (λ (x : A). w x ++ Of lexeme ∷ []) n limit (first_of empty first (lexeme ∷ [])) [] (empty && false) Is (closed read lexeme)
@@ -151,7 +151,7 @@ module _ {A : Type 0} {w : A → List Mark} {n : A → ℕ} {limit : ℕ} {first
     begins_by = closed_begins;
     reads = λ found tokens rest is fits meets stops. closed_reads found tokens rest is fits meets;
     wrote = closed_wrote;
-    steady = steady_closed lexeme read law.steady;
+    steady = steady_closed lexeme read (word_no_end lexeme fixed) law.steady;
   }
 
 -- ---- a tree made of what was read

@@ -1,10 +1,12 @@
 -- What is proved of each reading function: it reads what is spelled, what it reads was spelled so, and what it answers
 -- rests on the tokens up to the first one left.
-use Rattle.std.proofs.Common.{◌≡◌, ℕ, ◌≤◌, Bool, true, false, List, ◌∷◌, ◌++◌, length, Result, Ok, Err}
+use Rattle.std.proofs.Common.{◌≡◌, ℕ, ◌≤◌, Bool, true, false, not, List, ◌∷◌, ◌++◌, length, Result, Ok, Err}
+use Rattle.std.specs.List.{list_all}
 use Rattle.dbpl_base.specs.declared.lexeme.Lexeme.{Lexeme}
+use Rattle.dbpl_base.specs.declared.lexeme.Lexeme.TheVariants.{Finish}
 use Rattle.dbpl_base.specs.declared.token.Token.{Token}
 use Rattle.dbpl_tree.specs.Marks.{Mark, Meets}
-use Rattle.dbpl_grammar.specs.Reading.{Parser, Refused, among, begins}
+use Rattle.dbpl_grammar.specs.Reading.{Parser, Refused, among, begins, like}
 
 -- how the tokens of a phrase begin, which lead to `rest`: with one of these lexemes, or the phrase has no token
 pub data BeginsBy (first : List Lexeme) (empty : Bool) (tokens rest : List Token) : Type 0 where
@@ -31,10 +33,15 @@ abbrev pub leaving : {A : Type 0} → List Token → Result (A × List Token) Re
 leaving rest (Ok found) = Ok (found.0, rest)
 leaving rest (Err refused) = Err (record { reason = refused.reason; rest = rest })
 
--- the answer rests on the tokens up to and with the first one left
+-- the end of the text is not among them
+abbrev pub no_end : List Token → Bool
+no_end tokens = list_all (λ (token : Token). not (like Finish token.lexeme)) tokens
+
+-- the answer rests on the tokens up to and with the first one left, and the end of the text is none of those in front
 pub record Steady {A : Type 0} (read : Parser A) (tokens : List Token) (answer : Result (A × List Token) Refused) : Type 0 where
   pub front : List Token
   pub split : tokens ≡ front ++ left answer
+  pub inside : no_end front ≡ true
   pub holds : (token : Token) (behind other : List Token) → left answer ≡ token ∷ behind → read (front ++ token ∷ other) ≡ leaving (token ∷ other) answer
 
 -- The law of a reading function. Its trees are those that satisfy `Is`; their spellings begin with a lexeme of `first`

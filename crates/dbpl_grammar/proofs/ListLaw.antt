@@ -11,7 +11,7 @@ use Rattle.dbpl_grammar.proofs.Law.{BeginsBy, Ends, Law, Wrote, by_nothing, by_t
 use Rattle.dbpl_grammar.proofs.ManyLaw.{Goes, steady_many}
 use Rattle.dbpl_grammar.proofs.MeetsLaw.{meets_join, meets_shorter, meets_split}
 use Rattle.dbpl_grammar.proofs.Numbers.{max_both, max_left, max_right}
-use Rattle.dbpl_grammar.proofs.Sets.{among_append, is_fixed, like_self}
+use Rattle.dbpl_grammar.proofs.Sets.{among_append, is_fixed, is_word, like_self, word_fixed, word_no_end}
 use Rattle.dbpl_grammar.proofs.SteadyLaw.{steady_after, steady_either, steady_pure}
 use Rattle.dbpl_grammar.proofs.TokenLaw.{both_ok, err_isnt, expect_ok, ok, ok_is}
 
@@ -142,10 +142,10 @@ flag_wrote limit lexeme there tokens rest fixed e = by_begins (begins (lexeme �
         let same = ok_is (false, tokens) (there, rest) e in
         subst (λ (s : Bool × List Token). Wrote (flag_marks lexeme) (λ (b : Bool). 0) limit (λ (b : Bool). Unit {0}) s.0 tokens s.1) {x = (false, tokens)} same (record { is = tt; fits = zero-le; meets = refl })
 
-pub law_flag : (limit : ℕ) (lexeme : Lexeme) → is_fixed lexeme ≡ true → Law (flag_marks lexeme) (λ (b : Bool). 0) limit (lexeme ∷ []) (lexeme ∷ []) true (λ (b : Bool). Unit {0}) (flag lexeme)
+pub law_flag : (limit : ℕ) (lexeme : Lexeme) → is_word lexeme ≡ true → Law (flag_marks lexeme) (λ (b : Bool). 0) limit (lexeme ∷ []) (lexeme ∷ []) true (λ (b : Bool). Unit {0}) (flag lexeme)
 law_flag limit lexeme fixed = record {
   begins_by = λ there tokens rest is fits meets. flag_begins lexeme there tokens rest meets;
   reads = λ there tokens rest is fits meets ends. flag_reads lexeme there tokens rest meets ends;
-  wrote = λ there tokens rest e. flag_wrote limit lexeme there tokens rest fixed e;
-  steady = steady_either (lexeme ∷ []) (after lexeme (λ (rest : List Token). ok (true, rest))) (λ (rest : List Token). ok (false, rest)) (steady_after lexeme (λ (rest : List Token). ok (true, rest)) (λ rest. steady_pure true rest)) (λ rest. steady_pure false rest);
+  wrote = λ there tokens rest e. flag_wrote limit lexeme there tokens rest (word_fixed lexeme fixed) e;
+  steady = steady_either (lexeme ∷ []) (after lexeme (λ (rest : List Token). ok (true, rest))) (λ (rest : List Token). ok (false, rest)) (steady_after lexeme (λ (rest : List Token). ok (true, rest)) (word_no_end lexeme fixed) (λ rest. steady_pure true rest)) (λ rest. steady_pure false rest);
 }

@@ -3,8 +3,8 @@ use Rattle.std.proofs.Common.{◌≡◌, ℕ, zero, suc, ◌+◌, ◌<◌, Bool,
 use Rattle.dbpl_base.specs.declared.lexeme.Lexeme.{Lexeme}
 use Rattle.dbpl_base.specs.declared.token.Token.{Token}
 use Rattle.dbpl_grammar.specs.Reading.{Parser, Refused, ◌>>=◌, begins, many, many_from}
-use Rattle.dbpl_grammar.proofs.Law.{Steady, leaving, left}
-use Rattle.dbpl_grammar.proofs.SteadyLaw.{begins_same, steady_through}
+use Rattle.dbpl_grammar.proofs.Law.{Steady, leaving, left, no_end}
+use Rattle.dbpl_grammar.proofs.SteadyLaw.{begins_same, no_end_append, steady_through}
 
 -- each reading takes a token at least
 abbrev pub Goes : {A : Type 0} → Parser A → Type 0
@@ -14,6 +14,7 @@ Goes {A = A} read = (found : A) (tokens rest : List Token) → read tokens ≡ O
 record SteadyMany {A : Type 0} (set : List Lexeme) (read : Parser A) (found : List A) (tokens : List Token) (answer : Result (List A × List Token) Refused) : Type 0 where
   front : List Token
   split : tokens ≡ front ++ left answer
+  inside : no_end front ≡ true
   holds : (token : Token) (behind other : List Token) → left answer ≡ token ∷ behind → (turns : ℕ) → length (front ++ token ∷ other) < turns → many_from set read turns found (front ++ token ∷ other) ≡ leaving (token ∷ other) answer
 
 steady_many_from : {A : Type 0} (set : List Lexeme) (read : Parser A) → ((tokens : List Token) → Steady read tokens (read tokens)) → Goes read → (turns : ℕ) (found : List A) (tokens : List Token) → length tokens < turns → SteadyMany set read found tokens (many_from set read turns found tokens)
@@ -24,6 +25,7 @@ steady_many_from {A = A} set read s goes (suc turns) found tokens enough = by_be
     by_read again begun (Err refused) e once = record {
       front = once.front;
       split = once.split;
+      inside = once.inside;
       holds = λ token behind other is n more. by_turns token behind other is n more;
     }
       where
@@ -37,6 +39,7 @@ steady_many_from {A = A} set read s goes (suc turns) found tokens enough = by_be
         record {
           front = once.front ++ later.front;
           split = once.split ∙ ap (λ (t : List Token). once.front ++ t) later.split ∙ sym (append_assoc once.front later.front (left (many_from set read turns (found ++ next.0 ∷ []) next.1)));
+          inside = no_end_append once.front later.front once.inside later.inside;
           holds = λ token behind other is n more. by_turns later shorter token behind other is n more;
         }
       where
@@ -57,6 +60,7 @@ steady_many_from {A = A} set read s goes (suc turns) found tokens enough = by_be
     by_begins again false e = record {
       front = [];
       split = refl;
+      inside = refl;
       holds = λ token behind other is n more. by_turns token behind other is n more;
     }
       where
@@ -71,5 +75,6 @@ steady_many set read s goes tokens =
     record {
       front = all.front;
       split = all.split;
+      inside = all.inside;
       holds = λ token behind other is. all.holds token behind other is (suc (length (all.front ++ token ∷ other))) (omega arith);
     }

@@ -1,13 +1,14 @@
 -- The law of single tokens, of a token in front of a phrase and of one behind it.
 use Rattle.std.proofs.Common.{◌≡◌, ℕ, Bool, true, false, ◌||◌, List, [], ◌∷◌, length, Option, Some, None, Result, Ok, Err, refl, ap, ap₂, ◌∙◌, zero-le, arith, if◌then◌else◌}
 use Rattle.dbpl_base.specs.declared.lexeme.Lexeme.{Lexeme}
+use Rattle.dbpl_base.specs.declared.lexeme.Lexeme.TheVariants.{Finish}
 use Rattle.dbpl_base.specs.declared.place.Place.{Place}
 use Rattle.dbpl_base.specs.declared.token.Token.{Token}
 use Rattle.dbpl_tree.specs.Marks.{Mark, Of, Before, Meets}
-use Rattle.dbpl_grammar.specs.Reading.{Parser, Refused, ◌>>=◌, after, among, begins, by_table, expect, found_or, here, leaf, like, wrong}
+use Rattle.dbpl_grammar.specs.Reading.{Parser, Refused, ◌>>=◌, after, among, by_table, expect, found_or, here, leaf, like, wrong}
 use Rattle.dbpl_grammar.proofs.Law.{BeginsBy, Law, Wrote, by_nothing, by_token}
 use Rattle.dbpl_grammar.proofs.MeetsLaw.{meets_join, meets_shorter}
-use Rattle.dbpl_grammar.proofs.Sets.{fixed_is, is_fixed, like_self}
+use Rattle.dbpl_grammar.proofs.Sets.{fixed_is, is_fixed, is_word, like_self, word_fixed, word_no_end}
 use Rattle.dbpl_grammar.proofs.SteadyLaw.{steady_after, steady_here, steady_leaf}
 
 -- each tree
@@ -85,12 +86,12 @@ leaf_wrote {A = A} meaning lexeme_of limit h found (token ∷ tokens) rest e = b
           meets = (h token.lexeme x is ∙ ap (λ (s : A × List Token). lexeme_of s.0) same, ap (λ (s : A × List Token). s.1) same);
         }
 
-pub law_leaf : {A : Type 0} (limit : ℕ) (meaning : Lexeme → Option A) (lexeme_of : A → Lexeme) (first : List Lexeme) → ((x : A) → meaning (lexeme_of x) ≡ Some x) → ((l : Lexeme) (x : A) → meaning l ≡ Some x → l ≡ lexeme_of x) → ((x : A) → among first (lexeme_of x) ≡ true) → Law (λ (x : A). Of (lexeme_of x) ∷ []) (λ (x : A). 0) limit first [] false (λ (x : A). Any x) (leaf meaning)
-law_leaf limit meaning lexeme_of first means says begins = record {
-  begins_by = λ found tokens rest is fits meets. leaf_begins lexeme_of first begins found tokens rest meets;
+pub law_leaf : {A : Type 0} (limit : ℕ) (meaning : Lexeme → Option A) (lexeme_of : A → Lexeme) (first : List Lexeme) → meaning Finish ≡ None → ((x : A) → meaning (lexeme_of x) ≡ Some x) → ((l : Lexeme) (x : A) → meaning l ≡ Some x → l ≡ lexeme_of x) → ((x : A) → among first (lexeme_of x) ≡ true) → Law (λ (x : A). Of (lexeme_of x) ∷ []) (λ (x : A). 0) limit first [] false (λ (x : A). Any x) (leaf meaning)
+law_leaf limit meaning lexeme_of first not_end means says begun = record {
+  begins_by = λ found tokens rest is fits meets. leaf_begins lexeme_of first begun found tokens rest meets;
   reads = λ found tokens rest is fits meets ends. leaf_reads meaning lexeme_of means found tokens rest meets;
   wrote = λ found tokens rest e. leaf_wrote meaning lexeme_of limit says found tokens rest e;
-  steady = steady_leaf meaning;
+  steady = steady_leaf meaning not_end;
 }
 
 -- a table of words and signs says what it means
@@ -146,10 +147,10 @@ after_wrote {w = w} {read = read} lexeme fixed law found tokens rest e =
       meets = meets_one lexeme (w found) tokens both.0 rest (expect_ok lexeme tokens both.0 fixed both.1) inner.meets;
     }
 
-pub law_after : {A : Type 0} {w : A → List Mark} {n : A → ℕ} {limit : ℕ} {first more : List Lexeme} {empty : Bool} {Is : A → Type 0} {read : Parser A} (lexeme : Lexeme) → is_fixed lexeme ≡ true → Law w n limit first more empty Is read → Law (λ (x : A). Of lexeme ∷ w x) n limit (lexeme ∷ []) more false Is (after lexeme read)
+pub law_after : {A : Type 0} {w : A → List Mark} {n : A → ℕ} {limit : ℕ} {first more : List Lexeme} {empty : Bool} {Is : A → Type 0} {read : Parser A} (lexeme : Lexeme) → is_word lexeme ≡ true → Law w n limit first more empty Is read → Law (λ (x : A). Of lexeme ∷ w x) n limit (lexeme ∷ []) more false Is (after lexeme read)
 law_after {w = w} {read = read} lexeme fixed law = record {
   begins_by = λ found tokens rest is fits meets. after_begins lexeme w found tokens rest meets;
   reads = λ found tokens rest is fits meets ends. after_reads lexeme w read found tokens rest meets (λ middle m. law.reads found middle rest is fits m ends);
-  wrote = λ found tokens rest e. after_wrote lexeme fixed law found tokens rest e;
-  steady = steady_after lexeme read law.steady;
+  wrote = λ found tokens rest e. after_wrote lexeme (word_fixed lexeme fixed) law found tokens rest e;
+  steady = steady_after lexeme read (word_no_end lexeme fixed) law.steady;
 }

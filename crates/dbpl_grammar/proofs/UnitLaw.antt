@@ -1,13 +1,12 @@
 -- The law of headings, declarations, imports and units.
 use Rattle.std.proofs.Common.{◌≡◌, ℕ, max, true, false, ◌⊎◌, inl, inr, List, [], ◌∷◌, ◌++◌, flat_map, Option, Some, None, refl, ap, arith}
 use Rattle.dbpl_base.specs.declared.lexeme.Lexeme.{Lexeme}
-use Rattle.dbpl_base.specs.declared.lexeme.Lexeme.TheVariants.{Finish}
 use Rattle.dbpl_base.specs.declared.place.Place.{Place}
 use Rattle.dbpl_tree.specs.Declarations.{body_marks, common_marks, const_marks, decl_marks, heading_marks, item_marks, params_marks, plain_marks, routine_marks, section_marks, signature_marks, type_decl_marks, var_marks}
 use Rattle.dbpl_tree.specs.Depths.{expr_depth, factor_depth, greatest, option_depth}
 use Rattle.dbpl_tree.specs.Marks.{Of, Before, option_marks}
 use Rattle.dbpl_tree.specs.UnitDepths.{body_depth, common_depth, decl_depth, item_depth, plain_depth, program_depth, routine_depth, type_depth, unit_depth}
-use Rattle.dbpl_tree.specs.Units.{data_marks, definition_marks, import_marks, program_marks, text_marks, unit_marks}
+use Rattle.dbpl_tree.specs.Units.{data_marks, definition_marks, import_marks, program_marks, unit_marks}
 use Rattle.dbpl_tree.specs.Words.{colon, equal_sign, full_stop, left_parenthesis, right_parenthesis, semicolon, word_begin, word_const, word_constructor, word_database, word_definition, word_end, word_for, word_from, word_implementation, word_import, word_in, word_module, word_selector, word_type, word_var}
 use Rattle.dbpl_tree.specs.declared.aggregate.Aggregate.{Aggregate}
 use Rattle.dbpl_tree.specs.declared.decl.Common.{Common}
@@ -39,7 +38,6 @@ use Rattle.dbpl_tree.specs.declared.unit.Program.{Program}
 use Rattle.dbpl_tree.specs.declared.unit.Unit.{Unit as Module}
 use Rattle.dbpl_tree.specs.declared.unit.Unit.TheVariants as units
 use Rattle.dbpl_grammar.specs.Expressions.{all_of, ident_first}
-use Rattle.dbpl_grammar.specs.Reading.{closed}
 use Rattle.dbpl_grammar.specs.Units.{body, common, common_first, const_decl, constants, constructor, data_unit, decl, decl_first, definition_item, definition_unit, heading, implementation, import, import_first, import_from, import_whole, params, plain_decl, plain_first, program, routine, routine_first, section, section_first, selector, signature, type_decl, types, unit, var_decl, variables}
 use Rattle.dbpl_grammar.proofs.ChoiceLaw.{law_all, law_either, law_wider}
 use Rattle.dbpl_grammar.proofs.Every.{Every, all_those, both, made, maybe, shallow_list, shallow_option, variant}
@@ -252,7 +250,3 @@ law_unit limit =
     cases (units.Implementation place x) = inr (inl ((place, x), refl))
     cases (units.Definition x) = inr (inr (inl (x, refl)))
     cases (units.Data x) = inr (inr (inr (x, refl)))
-
--- with the end of the text behind
-pub law_text : (limit : ℕ) → Every text_marks unit_depth limit unit_first [] false (closed (unit limit) Finish)
-law_text limit = law_closed Finish refl refl (law_unit limit)

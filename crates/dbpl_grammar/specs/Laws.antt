@@ -1,5 +1,6 @@
 -- What is claimed of the grammar, and of what is read by it.
-use Rattle.std.specs.Prelude.{◌≡◌, ◌≤◌, List, ◌∷◌, ◌++◌, Ok, Err}
+use Rattle.std.specs.Prelude.{◌≡◌, ◌≢◌, ◌≤◌, List, [], ◌∷◌, ◌++◌, Ok, Err}
+use Rattle.dbpl_base.specs.declared.lexeme.Lexeme.TheVariants.{Finish}
 use Rattle.dbpl_base.specs.declared.token.Token.{Token}
 use Rattle.dbpl_tree.specs.Marks.{Mark, Meets}
 use Rattle.dbpl_tree.specs.UnitDepths.{unit_depth}
@@ -38,3 +39,12 @@ pub record NoneBegins (tokens rest : List Token) : Type 0 where
 abbrev pub RefusesUnits : Type 0
 RefusesUnits =
     (tokens : List Token) (refused : Refused) → whole_unit depth_limit tokens ≡ Err refused → NoneBegins tokens refused.rest
+
+-- the last token is the end of the text, as a text's tokens have it
+abbrev pub HasEnd : List Token → Type 0
+HasEnd tokens = (front : List Token) × (finish : Token) × (tokens ≡ front ++ finish ∷ []) × (finish.lexeme ≡ Finish)
+
+-- where the tokens have an end, a refusal names a token
+abbrev pub NamesToken : Type 0
+NamesToken =
+    (tokens : List Token) (refused : Refused) → HasEnd tokens → whole_unit depth_limit tokens ≡ Err refused → refused.rest ≢ []

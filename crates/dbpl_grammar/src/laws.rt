@@ -1,5 +1,5 @@
 //! Laws of the grammar. The functions do nothing: their contracts are the laws.
-ghost use Rattle.dbpl_grammar.specs.Laws.{OneTree, OneUnit, ReadsUnits, RefusesUnits, SpelledUnits};
+ghost use Rattle.dbpl_grammar.specs.Laws.{NamesToken, OneTree, OneUnit, ReadsUnits, RefusesUnits, SpelledUnits};
 ghost use Rattle.dbpl_tree.specs.Declarations.{common_marks, decl_marks, heading_marks, item_marks, params_marks, plain_marks};
 ghost use Rattle.dbpl_tree.specs.Expressions.{designator_marks, expr_marks};
 ghost use Rattle.dbpl_tree.specs.Factors.{aggregate_marks, element_marks, factor_marks, range_marks};
@@ -34,4 +34,5 @@ pub fn reads_units()
     ensures complete { ReadsUnits }
     ensures sound { SpelledUnits }
     ensures refused { RefusesUnits }
+    ensures named { NamesToken }
 {}

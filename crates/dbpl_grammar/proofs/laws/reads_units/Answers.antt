@@ -9,3 +9,6 @@ returns-clause-sound c = whole.spelled_units
 
 pub returns-clause-refused : goal.returns-clause-refused
 returns-clause-refused c = whole.refuses_units
+
+pub returns-clause-named : goal.returns-clause-named
+returns-clause-named c = whole.names_token
