@@ -2,6 +2,7 @@ pub mod ChoiceLaw
 pub mod Every
 pub mod ExprLaw
 pub mod FactorLaw
+pub mod Grows
 pub mod InnerLaw
 pub mod JoinLaw
 pub mod Law
