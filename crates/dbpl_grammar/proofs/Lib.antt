@@ -7,6 +7,7 @@ pub mod InnerLaw
 pub mod JoinLaw
 pub mod Law
 pub mod ListLaw
+pub mod Longest
 pub mod ManyLaw
 pub mod MeetsLaw
 pub mod NameLaw
