@@ -8,6 +8,7 @@ pub mod JoinLaw
 pub mod Law
 pub mod ListLaw
 pub mod Longest
+pub mod LongestLists
 pub mod ManyLaw
 pub mod MeetsLaw
 pub mod NameLaw

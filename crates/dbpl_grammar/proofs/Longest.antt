@@ -31,7 +31,7 @@ Starts {A = A} marks Is first =
 
 -- ---- what reads to a fixed end
 
-none_ends : (tokens : List Token) → Ends [] tokens
+pub none_ends : (tokens : List Token) → Ends [] tokens
 none_ends [] = refl
 none_ends (token ∷ tokens) = refl
 
@@ -83,7 +83,7 @@ exact_after lexeme exact = record { reads = after_exact lexeme exact }
 -- ---- one behind the other
 
 -- what stands in front of the same rest
-same_front : (front other rest : List Token) → front ++ rest ≡ other ++ rest → front ≡ other
+pub same_front : (front other rest : List Token) → front ++ rest ≡ other ++ rest → front ≡ other
 same_front [] [] rest e = refl
 same_front [] (token ∷ other) rest e =
     let lengths : length rest ≡ length ((token ∷ other) ++ rest) = ap (λ (t : List Token). length t) e in
@@ -105,7 +105,7 @@ same_front (token ∷ front) (first ∷ other) rest e =
     tail_of [] = []
     tail_of (first ∷ others) = others
 
-same_place : (front behind other : List Token) (next : Token) → SamePlace (front ++ next ∷ behind) (front ++ next ∷ other)
+pub same_place : (front behind other : List Token) (next : Token) → SamePlace (front ++ next ∷ behind) (front ++ next ∷ other)
 same_place [] behind other next = refl
 same_place (token ∷ front) behind other next = refl
 

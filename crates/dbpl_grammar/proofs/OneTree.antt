@@ -26,7 +26,7 @@ SamePlace [] other = Unit {0}
 SamePlace (token ∷ rest) [] = ⊥
 SamePlace (token ∷ rest) (first ∷ other) = first.place ≡ token.place
 
-no_front : (front rest : List Token) → front ++ rest ≡ rest → front ≡ []
+pub no_front : (front rest : List Token) → front ++ rest ≡ rest → front ≡ []
 no_front [] rest e = refl
 no_front (token ∷ front) rest e =
     let same : length ((token ∷ front) ++ rest) ≡ length rest = ap (λ (t : List Token). length t) e in
