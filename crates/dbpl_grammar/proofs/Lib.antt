@@ -17,6 +17,7 @@ pub mod OneTree
 pub mod OperatorLaw
 pub mod RangeLaw
 pub mod Sets
+pub mod Sharp
 pub mod StatementLaw
 pub mod SteadyLaw
 pub mod TokenLaw

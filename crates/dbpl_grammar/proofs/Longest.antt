@@ -109,7 +109,7 @@ pub same_place : (front behind other : List Token) (next : Token) → SamePlace 
 same_place [] behind other next = refl
 same_place (token ∷ front) behind other next = refl
 
-module _ {A B : Type 0} {w : A → List Mark} {n : A → ℕ} {limit : ℕ} {first more : List Lexeme} {empty : Bool} {Is : A → Type 0} {read : Parser A} {w' : B → List Mark} {n' : B → ℕ} {second wider : List Lexeme} {none : Bool} {Is' : A → B → Type 0} {next_read : A → Parser B} (law : Law w n limit first more empty Is read) (later : (found : A) → Is found → Law w' n' limit second wider none (Is' found) (next_read found)) (follows : apart second more ≡ true) (exact : Exact w n limit Is read) (exact' : (found : A) → Is found → Exact w' n' limit (Is' found) (next_read found)) (bare : (y : B) (rest : List Token) → Meets rest (w' y) rest → w' y ≡ []) (free : (x x' : A) (y : B) → w' y ≡ [] → Is' x y → Is' x' y) where
+module _ {A B : Type 0} {w : A → List Mark} {n : A → ℕ} {limit : ℕ} {first more : List Lexeme} {empty : Bool} {Is : A → Type 0} {read : Parser A} {w' : B → List Mark} {n' : B → ℕ} {second wider : List Lexeme} {none : Bool} {Is' : A → B → Type 0} {next_read : A → Parser B} (law : Law w n limit first more empty Is read) (later : (found : A) → Is found → Law w' n' limit second wider none (Is' found) (next_read found)) (follows : apart second more ≡ true) (exact : Exact w n limit Is read) (exact' : (found : A) → Is found → Exact w' n' limit (Is' found) (next_read found)) (bare : (y : B) (rest : List Token) → n' y ≤ limit → Meets rest (w' y) rest → w' y ≡ []) (free : (x x' : A) (y : B) → w' y ≡ [] → Is' x y → Is' x' y) where
   -- the first part, where these tokens lead from it to the next
   first_read : (x : A) (y : B) (front middle behind : List Token) (next : Token) → Is x → Is' x y → n x ≤ limit → n' y ≤ limit → Meets (front ++ (middle ++ next ∷ behind)) (w x) (middle ++ next ∷ behind) → Meets (middle ++ next ∷ behind) (w' y) (next ∷ behind) → Longest (λ (z : A × B). w z.0 ++ w' z.1) (λ (z : A × B). Is z.0 × Is' z.0 z.1) (front ++ middle) next → BeginsBy second none (middle ++ next ∷ behind) (next ∷ behind) → read (front ++ (middle ++ next ∷ behind)) ≡ Ok (x, middle ++ next ∷ behind)
   first_read x y front middle behind next is is' fits fits' h k longest (by_token token rest split begun shorter) =
@@ -119,7 +119,7 @@ module _ {A B : Type 0} {w : A → List Mark} {n : A → ℕ} {limit : ℕ} {fir
       both_true true e = refl
       both_true false e = e
   first_read x y front [] behind next is is' fits fits' h k longest (by_nothing e split) =
-      let empty_y = bare y (next ∷ behind) k in
+      let empty_y = bare y (next ∷ behind) fits' k in
       exact.reads front behind next x is fits h (λ other rest x' good m le.
         longest other rest (x', y) (good, free x x' y empty_y is') (subst (λ (ms : List Mark). Meets ((front ++ []) ++ next ∷ other) ms rest) (sym (append-nil (w x')) ∙ ap (λ (ms : List Mark). w x' ++ ms) (sym empty_y)) (subst (λ (f : List Token). Meets (f ++ next ∷ other) (w x') rest) (sym (append-nil front)) m)) le)
   first_read x y front (token ∷ middle) behind next is is' fits fits' h k longest (by_nothing e split) =
