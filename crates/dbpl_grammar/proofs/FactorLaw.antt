@@ -39,45 +39,45 @@ use Rattle.dbpl_grammar.proofs.TokenLaw.{law_after, law_here, law_leaf}
 abbrev Level : Type 0
 Level = Factor-F Element Factor Range Aggregate Each
 
-factor_as : (x : Factor) (l : Level) → out-Factor x ≡ l → factor_marks x ≡ factor_level spelling l
+pub factor_as : (x : Factor) (l : Level) → out-Factor x ≡ l → factor_marks x ≡ factor_level spelling l
 factor_as x l e = factor_marks-out x ∙ ap (factor_level spelling) e
 
-factor_deep : (x : Factor) (l : Level) → out-Factor x ≡ l → factor_depth x ≡ factor_depth_level depths l
+pub factor_deep : (x : Factor) (l : Level) → out-Factor x ≡ l → factor_depth x ≡ factor_depth_level depths l
 factor_deep x l e = factor_depth-out x ∙ ap (factor_depth_level depths) e
 
 -- ---- the alternatives
 
-abbrev IsNumber : Factor → Type 0
+abbrev pub IsNumber : Factor → Type 0
 IsNumber y = (x : Place × ℕ) × (factors.Number x.0 x.1 ≡ y)
 
-abbrev IsCharCode : Factor → Type 0
+abbrev pub IsCharCode : Factor → Type 0
 IsCharCode y = (x : Place × ℕ) × (factors.CharCode x.0 x.1 ≡ y)
 
-abbrev IsText : Factor → Type 0
+abbrev pub IsText : Factor → Type 0
 IsText y = (x : Place × List ℕ) × (factors.Text x.0 x.1 ≡ y)
 
-abbrev IsParenthesized : Factor → Type 0
+abbrev pub IsParenthesized : Factor → Type 0
 IsParenthesized y = (x : Place × ExprOf Factor) × (factors.Parenthesized x.0 x.1 ≡ y)
 
-abbrev IsNot : Factor → Type 0
+abbrev pub IsNot : Factor → Type 0
 IsNot y = (x : Place × (NotOperator × Factor)) × (factors.Not x.0 x.1.0 x.1.1 ≡ y)
 
-abbrev IsQuantified : Factor → Type 0
+abbrev pub IsQuantified : Factor → Type 0
 IsQuantified y =
     (x : Place × (Quantifier × (Ident × (Range × ExprOf Factor)))) × (factors.Quantified x.0 x.1.0 x.1.1.0 x.1.1.1.0 x.1.1.1.1 ≡ y)
 
 -- elements stand behind a name alone
-abbrev MayStand : DesignatorOf Factor → Behind → Type 0
+abbrev pub MayStand : DesignatorOf Factor → Behind → Type 0
 MayStand found (Braced xs) = is_qual found ≡ true
 MayStand found (Called arguments) = Unit {0}
 
-abbrev IsNamed : Factor → Type 0
+abbrev pub IsNamed : Factor → Type 0
 IsNamed y = (x : DesignatorOf Factor × Behind) × (Unit {0} × MayStand x.0 x.1) × (named_made x ≡ y)
 
-abbrev Cases : Factor → Type 0
+abbrev pub Cases : Factor → Type 0
 Cases y = IsNumber y ⊎ (IsCharCode y ⊎ (IsText y ⊎ (IsParenthesized y ⊎ (IsNot y ⊎ (IsQuantified y ⊎ IsNamed y)))))
 
-factor_cases : (y : Factor) → Cases y
+pub factor_cases : (y : Factor) → Cases y
 factor_cases y = by_level (out-Factor y) (roll-out-Factor y)
   where
     by_level : (l : Level) → roll-Factor l ≡ y → Cases y
@@ -97,20 +97,20 @@ factor_cases y = by_level (out-Factor y) (roll-out-Factor y)
 
 -- ---- factors that begin with a name
 
-abbrev behind_marks : Behind → List Mark
+abbrev pub behind_marks : Behind → List Mark
 behind_marks (Braced xs) = braced_marks xs
 behind_marks (Called arguments) = option_marks (arguments_marks factor_marks) arguments
 
-abbrev behind_depth : Behind → ℕ
+abbrev pub behind_depth : Behind → ℕ
 behind_depth (Braced xs) = greatest element_depth xs
 behind_depth (Called arguments) = option_depth (arguments_depth factor_depth) arguments
 
-named_marks : (found : DesignatorOf Factor) (x : Behind) → MayStand found x → factor_marks (named_made (found, x)) ≡ designator_marks factor_marks found ++ behind_marks x
+pub named_marks : (found : DesignatorOf Factor) (x : Behind) → MayStand found x → factor_marks (named_made (found, x)) ≡ designator_marks factor_marks found ++ behind_marks x
 named_marks found (Called arguments) is = factor_as (factors.Designator found arguments) _ (factors.outs-Designator found arguments)
 named_marks found (Braced xs) is =
     factor_as (factors.Aggregate (record { kind = qual_in found; elements = xs })) _ (factors.outs-Aggregate (record { kind = qual_in found; elements = xs })) ∙ aggregate_marks-out (record { kind = qual_in found; elements = xs }) ∙ ap (λ (ms : List Mark). ms ++ braced_marks xs) (qual_marks_in found is)
 
-named_depth : (found : DesignatorOf Factor) (x : Behind) → MayStand found x → factor_depth (named_made (found, x)) ≡ max (designator_depth factor_depth found) (behind_depth x)
+pub named_depth : (found : DesignatorOf Factor) (x : Behind) → MayStand found x → factor_depth (named_made (found, x)) ≡ max (designator_depth factor_depth found) (behind_depth x)
 named_depth found (Called arguments) is = factor_deep (factors.Designator found arguments) _ (factors.outs-Designator found arguments)
 named_depth found (Braced xs) is =
     factor_deep (factors.Aggregate (record { kind = qual_in found; elements = xs })) _ (factors.outs-Aggregate (record { kind = qual_in found; elements = xs })) ∙ aggregate_depth-out (record { kind = qual_in found; elements = xs }) ∙ none_before (designator_depth factor_depth found) (greatest element_depth xs) (qual_shallow found is)
@@ -118,20 +118,20 @@ named_depth found (Braced xs) is =
     none_before : (j k : ℕ) → j ≡ 0 → k ≡ max j k
     none_before j k e = omega arith
 
-abbrev behind_first : List Lexeme
+abbrev pub behind_first : List Lexeme
 behind_first = left_brace ∷ left_parenthesis ∷ []
 
 module _ {limit : ℕ} {inner : Inner} (laws : InnerLaw limit inner) where
-  law_called : Law behind_marks behind_depth limit (left_parenthesis ∷ []) factor_more true (λ (y : Behind). (x : Option (ArgumentsOf Factor)) × (Called x ≡ y)) (called inner)
+  pub law_called : Law behind_marks behind_depth limit (left_parenthesis ∷ []) factor_more true (λ (y : Behind). (x : Option (ArgumentsOf Factor)) × (Called x ≡ y)) (called inner)
   unfolding called
   law_called =
       law_wider (left_parenthesis ∷ []) factor_more refl refl (variant behind_marks behind_depth (maybe (law_arguments factor_marks factor_depth laws.expr)) Called (λ x. refl) (λ x. refl))
 
-  law_braces : Law behind_marks behind_depth limit (left_brace ∷ []) factor_more false (λ (y : Behind). (x : List Element) × (Braced x ≡ y)) (Braced <$> braced inner)
+  pub law_braces : Law behind_marks behind_depth limit (left_brace ∷ []) factor_more false (λ (y : Behind). (x : List Element) × (Braced x ≡ y)) (Braced <$> braced inner)
   law_braces =
       law_wider (left_brace ∷ []) factor_more refl refl (variant behind_marks behind_depth (law_braced laws) Braced (λ x. refl) (λ x. refl))
 
-  law_behind : (found : DesignatorOf Factor) (b : Bool) → is_qual found ≡ b → Law behind_marks behind_depth limit behind_first factor_more true (MayStand found) (if b then either (left_brace ∷ []) (Braced <$> braced inner) (called inner) else called inner)
+  pub law_behind : (found : DesignatorOf Factor) (b : Bool) → is_qual found ≡ b → Law behind_marks behind_depth limit behind_first factor_more true (MayStand found) (if b then either (left_brace ∷ []) (Braced <$> braced inner) (called inner) else called inner)
   law_behind found true is = law_all (MayStand found) (λ x may. to x) (λ x may. back x) (law_either law_braces law_called refl)
     where
       to : (y : Behind) → ((x : List Element) × (Braced x ≡ y)) ⊎ ((x : Option (ArgumentsOf Factor)) × (Called x ≡ y))
@@ -148,41 +148,56 @@ module _ {limit : ℕ} {inner : Inner} (laws : InnerLaw limit inner) where
       to (Braced xs) may = absurd (true≢false (sym may ∙ is))
       to (Called arguments) may = (arguments, refl)
 
-  law_named : Law factor_marks factor_depth limit ident_first factor_more false IsNamed (named inner)
+  pub law_named : Law factor_marks factor_depth limit ident_first factor_more false IsNamed (named inner)
   unfolding named behind
   law_named =
       law_made named_made factor_marks factor_depth IsNamed (law_then (law_designator factor_marks factor_depth laws.expr) (λ found is. law_behind found (is_qual found) refl) refl) (λ x is. named_marks x.0 x.1 is.1) (λ x is. named_depth x.0 x.1 is.1) (λ x is. (x, is, refl)) (λ y is. is)
 
   -- ---- the others
 
-  law_number : Law factor_marks factor_depth limit (a_number ∷ []) factor_more false IsNumber number
+  pub plain_number : Law factor_marks factor_depth limit (a_number ∷ []) [] false IsNumber number
   unfolding number
-  law_number =
-      law_wider (a_number ∷ []) factor_more refl refl (variant factor_marks factor_depth (both (law_here limit) (law_leaf limit number_of lexemes.Number (a_number ∷ []) refl (λ x. refl) number_is (λ x. refl)) refl) (λ found. factors.Number found.0 found.1) (λ x. factor_as (factors.Number x.0 x.1) _ (factors.outs-Number x.0 x.1)) (λ x. factor_deep (factors.Number x.0 x.1) _ (factors.outs-Number x.0 x.1)))
+  plain_number =
+      variant factor_marks factor_depth (both (law_here limit) (law_leaf limit number_of lexemes.Number (a_number ∷ []) refl (λ x. refl) number_is (λ x. refl)) refl) (λ found. factors.Number found.0 found.1) (λ x. factor_as (factors.Number x.0 x.1) _ (factors.outs-Number x.0 x.1)) (λ x. factor_deep (factors.Number x.0 x.1) _ (factors.outs-Number x.0 x.1))
 
-  law_char_code : Law factor_marks factor_depth limit (a_char_code ∷ []) factor_more false IsCharCode char_code
+  pub law_number : Law factor_marks factor_depth limit (a_number ∷ []) factor_more false IsNumber number
+  law_number = law_wider (a_number ∷ []) factor_more refl refl plain_number
+
+  pub plain_char_code : Law factor_marks factor_depth limit (a_char_code ∷ []) [] false IsCharCode char_code
   unfolding char_code
-  law_char_code =
-      law_wider (a_char_code ∷ []) factor_more refl refl (variant factor_marks factor_depth (both (law_here limit) (law_leaf limit char_code_of lexemes.CharCode (a_char_code ∷ []) refl (λ x. refl) char_code_is (λ x. refl)) refl) (λ found. factors.CharCode found.0 found.1) (λ x. factor_as (factors.CharCode x.0 x.1) _ (factors.outs-CharCode x.0 x.1)) (λ x. factor_deep (factors.CharCode x.0 x.1) _ (factors.outs-CharCode x.0 x.1)))
+  plain_char_code =
+      variant factor_marks factor_depth (both (law_here limit) (law_leaf limit char_code_of lexemes.CharCode (a_char_code ∷ []) refl (λ x. refl) char_code_is (λ x. refl)) refl) (λ found. factors.CharCode found.0 found.1) (λ x. factor_as (factors.CharCode x.0 x.1) _ (factors.outs-CharCode x.0 x.1)) (λ x. factor_deep (factors.CharCode x.0 x.1) _ (factors.outs-CharCode x.0 x.1))
 
-  law_text : Law factor_marks factor_depth limit (a_text ∷ []) factor_more false IsText text
+  pub law_char_code : Law factor_marks factor_depth limit (a_char_code ∷ []) factor_more false IsCharCode char_code
+  law_char_code = law_wider (a_char_code ∷ []) factor_more refl refl plain_char_code
+
+  pub plain_text : Law factor_marks factor_depth limit (a_text ∷ []) [] false IsText text
   unfolding text
-  law_text =
-      law_wider (a_text ∷ []) factor_more refl refl (variant factor_marks factor_depth (both (law_here limit) (law_leaf limit text_of lexemes.Text (a_text ∷ []) refl (λ x. refl) text_is (λ x. refl)) refl) (λ found. factors.Text found.0 found.1) (λ x. factor_as (factors.Text x.0 x.1) _ (factors.outs-Text x.0 x.1)) (λ x. factor_deep (factors.Text x.0 x.1) _ (factors.outs-Text x.0 x.1)))
+  plain_text =
+      variant factor_marks factor_depth (both (law_here limit) (law_leaf limit text_of lexemes.Text (a_text ∷ []) refl (λ x. refl) text_is (λ x. refl)) refl) (λ found. factors.Text found.0 found.1) (λ x. factor_as (factors.Text x.0 x.1) _ (factors.outs-Text x.0 x.1)) (λ x. factor_deep (factors.Text x.0 x.1) _ (factors.outs-Text x.0 x.1))
 
-  law_parenthesized : Law factor_marks factor_depth limit (left_parenthesis ∷ []) factor_more false IsParenthesized (parenthesized inner)
+  pub law_text : Law factor_marks factor_depth limit (a_text ∷ []) factor_more false IsText text
+  law_text = law_wider (a_text ∷ []) factor_more refl refl plain_text
+
+  pub plain_parenthesized : Law factor_marks factor_depth limit (left_parenthesis ∷ []) [] false IsParenthesized (parenthesized inner)
   unfolding parenthesized
-  law_parenthesized =
-      law_wider (left_parenthesis ∷ []) factor_more refl refl (variant factor_marks factor_depth (both (law_here limit) (law_after left_parenthesis refl (law_closed right_parenthesis refl refl laws.expr)) refl) (λ found. factors.Parenthesized found.0 found.1) (λ x. factor_as (factors.Parenthesized x.0 x.1) _ (factors.outs-Parenthesized x.0 x.1)) (λ x. let one = factor_deep (factors.Parenthesized x.0 x.1) _ (factors.outs-Parenthesized x.0 x.1) in omega (arith, one)))
+  plain_parenthesized =
+      variant factor_marks factor_depth (both (law_here limit) (law_after left_parenthesis refl (law_closed right_parenthesis refl refl laws.expr)) refl) (λ found. factors.Parenthesized found.0 found.1) (λ x. factor_as (factors.Parenthesized x.0 x.1) _ (factors.outs-Parenthesized x.0 x.1)) (λ x. let one = factor_deep (factors.Parenthesized x.0 x.1) _ (factors.outs-Parenthesized x.0 x.1) in omega (arith, one))
 
-  law_not_factor : Law factor_marks factor_depth limit not_first factor_more false IsNot ((λ found. factors.Not found.0 found.1.0 found.1.1) <$> inner.negated)
+  pub law_parenthesized : Law factor_marks factor_depth limit (left_parenthesis ∷ []) factor_more false IsParenthesized (parenthesized inner)
+  law_parenthesized = law_wider (left_parenthesis ∷ []) factor_more refl refl plain_parenthesized
+
+  pub law_not_factor : Law factor_marks factor_depth limit not_first factor_more false IsNot ((λ found. factors.Not found.0 found.1.0 found.1.1) <$> inner.negated)
   law_not_factor =
       variant factor_marks factor_depth laws.negated (λ found. factors.Not found.0 found.1.0 found.1.1) (λ x. factor_as (factors.Not x.0 x.1.0 x.1.1) _ (factors.outs-Not x.0 x.1.0 x.1.1)) (λ x. factor_deep (factors.Not x.0 x.1.0 x.1.1) _ (factors.outs-Not x.0 x.1.0 x.1.1))
 
-  law_quantified : Law factor_marks factor_depth limit quantifier_first factor_more false IsQuantified (quantified inner)
+  pub plain_quantified : Law factor_marks factor_depth limit quantifier_first [] false IsQuantified (quantified inner)
   unfolding quantified
-  law_quantified =
-      law_wider quantifier_first factor_more refl refl (variant factor_marks factor_depth (both (law_here limit) (both (law_quantifier limit) (both (law_ident limit) (both (law_after word_in refl laws.range) (law_after left_parenthesis refl (law_closed right_parenthesis refl refl laws.expr)) refl) refl) refl) refl) (λ found. factors.Quantified found.0 found.1.0 found.1.1.0 found.1.1.1.0 found.1.1.1.1) (λ x. factor_as (factors.Quantified x.0 x.1.0 x.1.1.0 x.1.1.1.0 x.1.1.1.1) _ (factors.outs-Quantified x.0 x.1.0 x.1.1.0 x.1.1.1.0 x.1.1.1.1)) (λ x. let one = factor_deep (factors.Quantified x.0 x.1.0 x.1.1.0 x.1.1.1.0 x.1.1.1.1) _ (factors.outs-Quantified x.0 x.1.0 x.1.1.0 x.1.1.1.0 x.1.1.1.1) in omega (arith, one)))
+  plain_quantified =
+      variant factor_marks factor_depth (both (law_here limit) (both (law_quantifier limit) (both (law_ident limit) (both (law_after word_in refl laws.range) (law_after left_parenthesis refl (law_closed right_parenthesis refl refl laws.expr)) refl) refl) refl) refl) (λ found. factors.Quantified found.0 found.1.0 found.1.1.0 found.1.1.1.0 found.1.1.1.1) (λ x. factor_as (factors.Quantified x.0 x.1.0 x.1.1.0 x.1.1.1.0 x.1.1.1.1) _ (factors.outs-Quantified x.0 x.1.0 x.1.1.0 x.1.1.1.0 x.1.1.1.1)) (λ x. let one = factor_deep (factors.Quantified x.0 x.1.0 x.1.1.0 x.1.1.1.0 x.1.1.1.1) _ (factors.outs-Quantified x.0 x.1.0 x.1.1.0 x.1.1.1.0 x.1.1.1.1) in omega (arith, one))
+
+  pub law_quantified : Law factor_marks factor_depth limit quantifier_first factor_more false IsQuantified (quantified inner)
+  law_quantified = law_wider quantifier_first factor_more refl refl plain_quantified
 
   pub law_factor : Every factor_marks factor_depth limit factor_first factor_more false (factor inner)
   unfolding factor
@@ -199,7 +214,7 @@ law_negated {limit = limit} laws =
 law_expr : {limit : ℕ} {inner : Inner} → InnerLaw limit inner → Every (expr_marks factor_marks) (expr_depth factor_depth) (suc limit) expr_first expr_more false (expr (factor inner))
 law_expr laws = law_counted (law_expr_inside (law_factor laws))
 
-range_counts : (x : Range) → range_depth x ≤ 0 → ⊥
+pub range_counts : (x : Range) → range_depth x ≤ 0 → ⊥
 range_counts x h = by_level (out-Range x) (subst (λ (k : ℕ). k ≤ 0) (range_depth-out x) h)
   where
     by_level : (l : Range-F Element Factor Range Aggregate Each) → range_depth_level depths l ≤ 0 → ⊥

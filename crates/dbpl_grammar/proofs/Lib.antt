@@ -15,6 +15,7 @@ pub mod NameLaw
 pub mod Numbers
 pub mod OneTree
 pub mod OperatorLaw
+pub mod OperatorTables
 pub mod RangeLaw
 pub mod Sets
 pub mod Sharp

@@ -33,13 +33,13 @@ MayBrace found (Some xs) = is_qual found ≡ true
 abbrev pub named_aggregate : DesignatorOf Factor → List Element → Aggregate
 named_aggregate found xs = record { kind = qual_in found; elements = xs }
 
-range_marks_made : (found : DesignatorOf Factor) (xs : Option (List Element)) → MayBrace found xs → range_marks (range_made (found, xs)) ≡ designator_marks factor_marks found ++ option_marks braced_marks xs
+pub range_marks_made : (found : DesignatorOf Factor) (xs : Option (List Element)) → MayBrace found xs → range_marks (range_made (found, xs)) ≡ designator_marks factor_marks found ++ option_marks braced_marks xs
 range_marks_made found None is =
     range_marks-out (ranges.Designator found) ∙ ap (range_level spelling) (ranges.outs-Designator found) ∙ sym (append-nil (designator_marks factor_marks found))
 range_marks_made found (Some xs) is =
     range_marks-out (ranges.Aggregate (named_aggregate found xs)) ∙ ap (range_level spelling) (ranges.outs-Aggregate (named_aggregate found xs)) ∙ aggregate_marks-out (named_aggregate found xs) ∙ ap (λ (ms : List Mark). ms ++ braced_marks xs) (qual_marks_in found is)
 
-range_depth_made : (found : DesignatorOf Factor) (xs : Option (List Element)) → MayBrace found xs → range_depth (range_made (found, xs)) ≡ suc (max (designator_depth factor_depth found) (option_depth (greatest element_depth) xs))
+pub range_depth_made : (found : DesignatorOf Factor) (xs : Option (List Element)) → MayBrace found xs → range_depth (range_made (found, xs)) ≡ suc (max (designator_depth factor_depth found) (option_depth (greatest element_depth) xs))
 range_depth_made found None is =
     range_depth-out (ranges.Designator found) ∙ ap (range_depth_level depths) (ranges.outs-Designator found) ∙ same_alone (designator_depth factor_depth found)
   where
@@ -51,7 +51,7 @@ range_depth_made found (Some xs) is =
     none_before : (j k : ℕ) → j ≡ 0 → suc k ≡ suc (max j k)
     none_before j k e = omega arith
 
-range_cases : (y : Range) → (x : DesignatorOf Factor × Option (List Element)) × (Unit {0} × MayBrace x.0 x.1) × (range_made x ≡ y)
+pub range_cases : (y : Range) → (x : DesignatorOf Factor × Option (List Element)) × (Unit {0} × MayBrace x.0 x.1) × (range_made x ≡ y)
 range_cases y = by_level (out-Range y) (roll-out-Range y)
   where
     by_level : (l : Range-F Element Factor Range Aggregate Each) → roll-Range l ≡ y → (x : DesignatorOf Factor × Option (List Element)) × (Unit {0} × MayBrace x.0 x.1) × (range_made x ≡ y)
@@ -63,7 +63,7 @@ abbrev pub brace_first : List Lexeme
 brace_first = left_brace ∷ []
 
 module _ {limit : ℕ} {inner : Inner} (laws : InnerLaw limit inner) where
-  law_behind : (found : DesignatorOf Factor) (b : Bool) → is_qual found ≡ b → Law (option_marks braced_marks) (option_depth (greatest element_depth)) limit brace_first range_more true (MayBrace found) (if b then optional brace_first (braced inner) else nothing)
+  pub law_behind : (found : DesignatorOf Factor) (b : Bool) → is_qual found ≡ b → Law (option_marks braced_marks) (option_depth (greatest element_depth)) limit brace_first range_more true (MayBrace found) (if b then optional brace_first (braced inner) else nothing)
   law_behind found true is =
       law_all (MayBrace found) (λ x may. tt) (λ x may. by_option x) (law_wider brace_first range_more refl refl (maybe (law_braced laws)))
     where
