@@ -20,6 +20,8 @@ pub mod RangeLaw
 pub mod Sets
 pub mod Sharp
 pub mod StatementLaw
+pub mod SharpExpr
+pub mod SharpFactor
 pub mod SteadyLaw
 pub mod TokenLaw
 pub mod TypeLaw
