@@ -137,3 +137,65 @@ module _ {limit : ℕ} {inner : Inner} (all : InnerExact limit inner) where
       let exact_2 = exact_either (law_text all.laws) laws_3 (exact_plain (plain_text all.laws)) exact_3 refl (not_empty factor_marks alternatives.IsText (a_text ∷ [])) in
       let exact_1 = exact_either (law_char_code all.laws) laws_2 (exact_plain (plain_char_code all.laws)) exact_2 refl (not_empty factor_marks alternatives.IsCharCode (a_char_code ∷ [])) in
       exact_all (λ (y : Factor). Unit {0}) (λ y is. factor_cases y) (λ y is. tt) (exact_either (law_number all.laws) laws_1 (exact_plain (plain_number all.laws)) exact_1 refl (not_empty factor_marks alternatives.IsNumber (a_number ∷ [])))
+
+  -- ---- ranges
+
+  exact_elements : (found : DesignatorOf Factor) (b : Bool) → is_qual found ≡ b → Exact (option_marks braced_marks) (option_depth (greatest element_depth)) limit (MayBrace found) (if b then optional brace_first (braced inner) else nothing)
+  exact_elements found true is =
+      exact_all (MayBrace found) (λ x may. tt) (λ x may. by_option x) (sharp_maybe (sharp_plain (law_braced all.laws)) starts_braced).exact
+    where
+      by_option : (x : Option (List Element)) → MayBrace found x
+      by_option None = tt
+      by_option (Some xs) = is
+  exact_elements found false is =
+      exact_all (MayBrace found) (λ x may. by_option x may) (λ x none. subst (λ (y : Option (List Element)). MayBrace found y) (sym none) tt) (exact_plain (law_nothing braced_marks (greatest element_depth) limit))
+    where
+      by_option : (x : Option (List Element)) → MayBrace found x → x ≡ None
+      by_option None may = refl
+      by_option (Some xs) may = absurd (true≢false (sym may ∙ is))
+
+  exact_range : Exact range_marks range_depth (suc limit) (λ (x : Range). Unit {0}) (range inner)
+  unfolding range
+  exact_range =
+      exact_made range_marks range_depth (λ (y : Range). Unit {0}) (exact_counted (exact_then (law_designator factor_marks factor_depth all.laws.expr) (λ found is. ranges.law_behind all.laws found (is_qual found) refl) refl (sharp_designator factor_marks factor_depth all.laws.expr some_whole).exact (λ found is. exact_elements found (is_qual found) refl) (λ y rest fits h. bare_elements y rest h) free_elements)) range_made (λ x is. range_marks_made x.0 x.1 is.1) (λ x is. range_depth_made x.0 x.1 is.1) (λ x is. tt) (λ y is. range_cases y)
+    where
+      bare_elements : (y : Option (List Element)) (rest : List Token) → Meets rest (option_marks braced_marks y) rest → option_marks braced_marks y ≡ []
+      bare_elements None rest h = refl
+      bare_elements (Some xs) rest h = absurd (of_takes left_brace _ rest h)
+      free_elements : (x x' : DesignatorOf Factor) (y : Option (List Element)) → option_marks braced_marks y ≡ [] → MayBrace x y → MayBrace x' y
+      free_elements x x' None e is = tt
+      free_elements x x' (Some xs) e is = absurd (let some : Of left_brace ∷ _ ≡ [] = e in cc)
+
+  -- ---- negations and expressions
+
+  sharp_factor : Sharp factor_marks factor_depth limit factor_first factor_more false (factor inner)
+  sharp_factor = record { law = law_factor all.laws; exact = exact_factor }
+
+  exact_negated : Exact negated_marks negated_depth (suc limit) (λ (x : Place × (NotOperator × Factor)). Unit {0}) (negated inner)
+  unfolding negated
+  exact_negated =
+      let inside = exact_counted (sharp_both (sharp_here limit) (sharp_both (sharp_plain (law_not limit)) sharp_factor refl) refl).exact in
+      record {
+        reads = λ front behind next x is fits meets longest.
+            inside.reads front behind next x is (let below = fits in omega arith) meets longest
+      }
+
+  exact_expr : Exact (expr_marks factor_marks) (expr_depth factor_depth) (suc limit) (λ (x : ExprOf Factor). Unit {0}) (expr (factor inner))
+  exact_expr = exact_counted (sharp_expr_inside sharp_factor some_factor).exact
+
+-- ---- at every depth
+
+pub inner_exact : (depth : ℕ) → InnerExact depth (at_depth depth)
+unfolding at_depth
+inner_exact zero = record {
+  laws = inner_law zero;
+  expr = exact_never (expr_marks factor_marks) (expr_depth factor_depth) 0 (λ (x : ExprOf Factor). Unit {0}) (too_deep expr_first) (λ x h. not-suc-le-zero h);
+  range = exact_never range_marks range_depth 0 (λ (x : Range). Unit {0}) (too_deep ident_first) range_counts;
+  negated = exact_never negated_marks negated_depth 0 (λ (x : Place × (NotOperator × Factor)). Unit {0}) (too_deep not_first) (λ x h. not-suc-le-zero h);
+}
+inner_exact (suc depth) = record {
+  laws = inner_law (suc depth);
+  expr = exact_expr (inner_exact depth);
+  range = exact_range (inner_exact depth);
+  negated = exact_negated (inner_exact depth);
+}
