@@ -1,7 +1,6 @@
 -- What is read where fewer phrases may stand inside one another is read where more may.
-use Rattle.std.proofs.Common.{◌≡◌, ℕ, zero, suc, ◌≤◌, Bool, true, false, List, [], ◌∷◌, ◌++◌, length, Option, Some, None, Result, Ok, Err, refl, sym, ap, ◌∙◌, arith, not-suc-le-zero, if◌then◌else◌}
+use Rattle.std.proofs.Common.{◌≡◌, ℕ, zero, suc, ◌≤◌, Bool, true, false, List, [], ◌∷◌, ◌++◌, length, Some, Ok, Err, arith, not-suc-le-zero, if◌then◌else◌}
 use Rattle.dbpl_base.specs.declared.lexeme.Lexeme.{Lexeme}
-use Rattle.dbpl_base.specs.declared.place.Place.{Place}
 use Rattle.dbpl_base.specs.declared.token.Token.{Token}
 use Rattle.dbpl_tree.specs.declared.aggregate.Aggregate.{Aggregate}
 use Rattle.dbpl_tree.specs.declared.designator.DesignatorOf.{DesignatorOf}
@@ -20,7 +19,7 @@ use Rattle.dbpl_tree.specs.declared.term.TermOf.{TermOf}
 use Rattle.dbpl_tree.specs.declared.factor.Factor.{Factor}
 use Rattle.dbpl_tree.specs.declared.factor.Factor.TheVariants as factors
 use Rattle.dbpl_tree.specs.Words.{colon, comma, full_stop, left_brace, left_bracket, left_parenthesis, right_brace, right_bracket, right_parenthesis, word_each, word_in, word_of}
-use Rattle.dbpl_grammar.specs.Expressions.{Behind, Braced, Called, Inner, added, adding_first, adding_of, aggregate, all_of, arguments, at_depth, behind, braced, called, char_code, compared, designator, each, each_of, element, element_first, element_made, expr, expr_first, exprs, factor, ident, ident_first, is_qual, multiplied, multiplying_first, multiplying_of, named, named_made, negated, not_first, not_of, number, parenthesized, part, part_first, qual, quantified, quantifier_first, quantifier_of, range, range_made, relation_of, relations_first, sign_of, signs_first, simple, subscripts, term, text}
+use Rattle.dbpl_grammar.specs.Expressions.{Braced, Called, Inner, added, adding_first, adding_of, aggregate, all_of, arguments, at_depth, behind, braced, called, char_code, compared, designator, each, each_of, element, element_first, element_made, expr, expr_first, exprs, factor, ident, ident_first, is_qual, multiplied, multiplying_first, multiplying_of, named, named_made, negated, not_first, not_of, number, parenthesized, part, part_first, qual, quantified, quantifier_first, quantifier_of, range, range_made, relation_of, relations_first, sign_of, signs_first, simple, subscripts, term, text}
 use Rattle.dbpl_grammar.specs.Lexemes.{a_char_code, a_number, a_text}
 use Rattle.dbpl_grammar.specs.Reading.{Parser, Refused, ◌>>=◌, ◌<$>◌, ◌⊗◌, ◌⊗>◌, after, begins, closed, either, expect, here, leaf, many, many_from, nothing, optional, too_deep}
 use Rattle.dbpl_grammar.proofs.TokenLaw.{both_ok, err, err_isnt}

@@ -1,3 +1,4 @@
+pub mod CallLaw
 pub mod ChoiceLaw
 pub mod Every
 pub mod ExprLaw

@@ -1,14 +1,11 @@
 -- A phrase is read where nothing longer begins with its tokens and the next one, whatever that is.
-use Rattle.std.proofs.Common.{◌≡◌, ℕ, zero, suc, ◌+◌, ◌≤◌, ◌<◌, max, Bool, true, false, ◌&&◌, ◌⊎◌, inl, inr, List, [], ◌∷◌, ◌++◌, length, flat_map, append_assoc, append-nil, length-append, Option, Some, None, Result, Ok, Err, refl, sym, ap, ap₂, ◌∙◌, subst, le_refl, le_trans, arith, not-suc-le-zero, true≢false, if◌then◌else◌}
+use Rattle.std.proofs.Common.{◌≡◌, ℕ, suc, ◌≤◌, max, Bool, true, false, ◌&&◌, List, [], ◌∷◌, ◌++◌, length, append_assoc, append-nil, length-append, Ok, refl, sym, ap, ap₂, ◌∙◌, subst, arith}
 use Rattle.dbpl_base.specs.declared.lexeme.Lexeme.{Lexeme}
 use Rattle.dbpl_base.specs.declared.token.Token.{Token}
-use Rattle.dbpl_tree.specs.Depths.{greatest, option_depth}
-use Rattle.dbpl_tree.specs.Marks.{Mark, Of, Before, Meets, option_marks}
-use Rattle.dbpl_grammar.specs.Reading.{Parser, ◌>>=◌, ◌<$>◌, ◌⊗◌, ◌⊗>◌, after, among, begins, either, many, many_from, nothing, optional}
-use Rattle.dbpl_grammar.proofs.ChoiceLaw.{begins_with}
-use Rattle.dbpl_grammar.proofs.JoinLaw.{ends_before, may_follow}
+use Rattle.dbpl_tree.specs.Marks.{Mark, Of, Meets}
+use Rattle.dbpl_grammar.specs.Reading.{Parser, ◌<$>◌, ◌⊗>◌, after, among}
+use Rattle.dbpl_grammar.proofs.JoinLaw.{ends_before}
 use Rattle.dbpl_grammar.proofs.Law.{BeginsBy, Ends, Law, by_nothing, by_token}
-use Rattle.dbpl_grammar.proofs.ListLaw.{takes_one}
 use Rattle.dbpl_grammar.proofs.MeetsLaw.{meets_join, meets_shorter, meets_split}
 use Rattle.dbpl_grammar.proofs.Numbers.{max_left, max_right}
 use Rattle.dbpl_grammar.proofs.OneTree.{SamePlace, meets_front, meets_swap}
@@ -37,36 +34,36 @@ none_ends (token ∷ tokens) = refl
 
 pub exact_plain : {A : Type 0} {w : A → List Mark} {n : A → ℕ} {limit : ℕ} {first : List Lexeme} {empty : Bool} {Is : A → Type 0} {read : Parser A} → Law w n limit first [] empty Is read → Exact w n limit Is read
 exact_plain law = record {
-    reads = λ front behind next x is fits meets longest.
-        law.reads x (front ++ next ∷ behind) (next ∷ behind) is fits meets (none_ends (next ∷ behind))
-  }
+  reads = λ front behind next x is fits meets longest.
+      law.reads x (front ++ next ∷ behind) (next ∷ behind) is fits meets (none_ends (next ∷ behind));
+}
 
 pub exact_never : {A : Type 0} (w : A → List Mark) (n : A → ℕ) (limit : ℕ) (Is : A → Type 0) (read : Parser A) → ((x : A) → n x ≤ limit → ⊥) → Exact w n limit Is read
 exact_never w n limit Is read never = record {
-    reads = λ front behind next x is fits meets longest. absurd (never x fits)
-  }
+  reads = λ front behind next x is fits meets longest. absurd (never x fits);
+}
 
 -- ---- said otherwise
 
 pub exact_counted : {A : Type 0} {w : A → List Mark} {n : A → ℕ} {limit : ℕ} {Is : A → Type 0} {read : Parser A} → Exact w n limit Is read → Exact w (λ (x : A). suc (n x)) (suc limit) Is read
 exact_counted exact = record {
-    reads = λ front behind next x is fits meets longest. exact.reads front behind next x is (omega arith) meets longest
-  }
+  reads = λ front behind next x is fits meets longest. exact.reads front behind next x is (omega arith) meets longest;
+}
 
 pub exact_all : {A : Type 0} {w : A → List Mark} {n : A → ℕ} {limit : ℕ} {Is : A → Type 0} {read : Parser A} (Is' : A → Type 0) → ((x : A) → Is' x → Is x) → ((x : A) → Is x → Is' x) → Exact w n limit Is read → Exact w n limit Is' read
 exact_all Is' to back exact = record {
-    reads = λ front behind next x is fits meets longest.
-        exact.reads front behind next x (to x is) fits meets (λ other rest y good m le. longest other rest y (back y good) m le)
-  }
+  reads = λ front behind next x is fits meets longest.
+      exact.reads front behind next x (to x is) fits meets (λ other rest y good m le. longest other rest y (back y good) m le);
+}
 
 pub exact_made : {A B : Type 0} {w : A → List Mark} {n : A → ℕ} {limit : ℕ} {Is : A → Type 0} {read : Parser A} (w' : B → List Mark) (n' : B → ℕ) (Is' : B → Type 0) → Exact w n limit Is read → (make : A → B) → ((x : A) → Is x → w' (make x) ≡ w x) → ((x : A) → Is x → n' (make x) ≡ n x) → ((x : A) → Is x → Is' (make x)) → ((y : B) → Is' y → (x : A) × Is x × (make x ≡ y)) → Exact w' n' limit Is' (make <$> read)
 exact_made {A = A} {B = B} {limit = limit} {read = read} w' n' Is' exact make marks depth to back = record {
-    reads = λ front behind next y is fits meets longest.
-        (let made = back y is in
-        let spelled = subst (λ (ms : List Mark). Meets (front ++ next ∷ behind) ms (next ∷ behind)) (sym (ap w' made.2) ∙ marks made.0 made.1) meets in
-        let one = exact.reads front behind next made.0 made.1 (subst (λ (k : ℕ). k ≤ limit) (sym (ap n' made.2) ∙ depth made.0 made.1) fits) spelled (λ other rest x good m le. longest other rest (make x) (to x good) (subst (λ (ms : List Mark). Meets (front ++ next ∷ other) ms rest) (sym (marks x good)) m) le) in
-        rw one (ap (λ (x : B). Ok (x, next ∷ behind)) made.2))
-  }
+  reads = λ front behind next y is fits meets longest.
+      (let made = back y is in
+      let spelled = subst (λ (ms : List Mark). Meets (front ++ next ∷ behind) ms (next ∷ behind)) (sym (ap w' made.2) ∙ marks made.0 made.1) meets in
+      let one = exact.reads front behind next made.0 made.1 (subst (λ (k : ℕ). k ≤ limit) (sym (ap n' made.2) ∙ depth made.0 made.1) fits) spelled (λ other rest x good m le. longest other rest (make x) (to x good) (subst (λ (ms : List Mark). Meets (front ++ next ∷ other) ms rest) (sym (marks x good)) m) le) in
+      rw one (ap (λ (x : B). Ok (x, next ∷ behind)) made.2));
+}
 
 -- ---- a word or sign in front
 
@@ -101,6 +98,7 @@ same_front (token ∷ front) (first ∷ other) rest e =
     head_or : Token → List Token → Token
     head_or token [] = token
     head_or token (first ∷ others) = first
+
     tail_of : List Token → List Token
     tail_of [] = []
     tail_of (first ∷ others) = others
@@ -121,7 +119,7 @@ module _ {A B : Type 0} {w : A → List Mark} {n : A → ℕ} {limit : ℕ} {fir
   first_read x y front [] behind next is is' fits fits' h k longest (by_nothing e split) =
       let empty_y = bare y (next ∷ behind) fits' k in
       exact.reads front behind next x is fits h (λ other rest x' good m le.
-        longest other rest (x', y) (good, free x x' y empty_y is') (subst (λ (ms : List Mark). Meets ((front ++ []) ++ next ∷ other) ms rest) (sym (append-nil (w x')) ∙ ap (λ (ms : List Mark). w x' ++ ms) (sym empty_y)) (subst (λ (f : List Token). Meets (f ++ next ∷ other) (w x') rest) (sym (append-nil front)) m)) le)
+      longest other rest (x', y) (good, free x x' y empty_y is') (subst (λ (ms : List Mark). Meets ((front ++ []) ++ next ∷ other) ms rest) (sym (append-nil (w x')) ∙ ap (λ (ms : List Mark). w x' ++ ms) (sym empty_y)) (subst (λ (f : List Token). Meets (f ++ next ∷ other) (w x') rest) (sym (append-nil front)) m)) le)
   first_read x y front (token ∷ middle) behind next is is' fits fits' h k longest (by_nothing e split) =
       let lengths : length ((token ∷ middle) ++ next ∷ behind) ≡ length (next ∷ behind) = ap (λ (t : List Token). length t) split in
       let parts = length-append (token ∷ middle) (next ∷ behind) in
@@ -131,19 +129,19 @@ module _ {A B : Type 0} {w : A → List Mark} {n : A → ℕ} {limit : ℕ} {fir
   then_exact x y front middle behind next is is' fits fits' h k longest =
       let one = first_read x y front middle behind next is is' fits fits' h k longest ((later x is).begins_by y (middle ++ next ∷ behind) (next ∷ behind) is' fits' k) in
       let two = (exact' x is).reads middle behind next y is' fits' k (λ other rest y' good m le.
-        longest other rest (x, y') (is, good) (subst (λ (t : List Token). Meets t (w x ++ w' y') rest) (sym (append_assoc front middle (next ∷ other))) (meets_join (w x) (w' y') (front ++ (middle ++ next ∷ other)) (middle ++ next ∷ other) rest (meets_swap (w x) front (middle ++ next ∷ behind) (middle ++ next ∷ other) (same_place middle behind other next) h) m)) le) in
+      longest other rest (x, y') (is, good) (subst (λ (t : List Token). Meets t (w x ++ w' y') rest) (sym (append_assoc front middle (next ∷ other))) (meets_join (w x) (w' y') (front ++ (middle ++ next ∷ other)) (middle ++ next ∷ other) rest (meets_swap (w x) front (middle ++ next ∷ behind) (middle ++ next ∷ other) (same_place middle behind other next) h) m)) le) in
       rw (one, two) refl
 
   pub exact_then : Exact (λ (z : A × B). w z.0 ++ w' z.1) (λ (z : A × B). max (n z.0) (n' z.1)) limit (λ (z : A × B). Is z.0 × Is' z.0 z.1) (read ⊗> next_read)
   exact_then = record {
-      reads = λ front behind next z is fits meets longest.
-          (let parts = meets_split (w z.0) (w' z.1) (front ++ next ∷ behind) (next ∷ behind) meets in
-          let before = meets_front (w z.0) (front ++ next ∷ behind) parts.0 parts.1 in
-          let between = meets_front (w' z.1) parts.0 (next ∷ behind) parts.2 in
-          let same : front ≡ before.0 ++ between.0 = same_front front (before.0 ++ between.0) (next ∷ behind) (before.1 ∙ ap (λ (t : List Token). before.0 ++ t) between.1 ∙ sym (append_assoc before.0 between.0 (next ∷ behind))) in
-          let all : front ++ next ∷ behind ≡ before.0 ++ (between.0 ++ next ∷ behind) = before.1 ∙ ap (λ (t : List Token). before.0 ++ t) between.1 in
-          let h = subst (λ (t : List Token). Meets t (w z.0) (between.0 ++ next ∷ behind)) all (subst (λ (t : List Token). Meets (front ++ next ∷ behind) (w z.0) t) between.1 parts.1) in
-          let k = subst (λ (t : List Token). Meets t (w' z.1) (next ∷ behind)) between.1 parts.2 in
-          let read_all = then_exact z.0 z.1 before.0 between.0 behind next is.0 is.1 (max_left (n z.0) (n' z.1) limit fits) (max_right (n z.0) (n' z.1) limit fits) h k (subst (λ (f : List Token). Longest (λ (y : A × B). w y.0 ++ w' y.1) (λ (y : A × B). Is y.0 × Is' y.0 y.1) f next) same longest) in
-          subst (λ (t : List Token). (read ⊗> next_read) t ≡ Ok (z, next ∷ behind)) (sym all) read_all)
-    }
+    reads = λ front behind next z is fits meets longest.
+        (let parts = meets_split (w z.0) (w' z.1) (front ++ next ∷ behind) (next ∷ behind) meets in
+        let before = meets_front (w z.0) (front ++ next ∷ behind) parts.0 parts.1 in
+        let between = meets_front (w' z.1) parts.0 (next ∷ behind) parts.2 in
+        let same : front ≡ before.0 ++ between.0 = same_front front (before.0 ++ between.0) (next ∷ behind) (before.1 ∙ ap (λ (t : List Token). before.0 ++ t) between.1 ∙ sym (append_assoc before.0 between.0 (next ∷ behind))) in
+        let all : front ++ next ∷ behind ≡ before.0 ++ (between.0 ++ next ∷ behind) = before.1 ∙ ap (λ (t : List Token). before.0 ++ t) between.1 in
+        let h = subst (λ (t : List Token). Meets t (w z.0) (between.0 ++ next ∷ behind)) all (subst (λ (t : List Token). Meets (front ++ next ∷ behind) (w z.0) t) between.1 parts.1) in
+        let k = subst (λ (t : List Token). Meets t (w' z.1) (next ∷ behind)) between.1 parts.2 in
+        let read_all = then_exact z.0 z.1 before.0 between.0 behind next is.0 is.1 (max_left (n z.0) (n' z.1) limit fits) (max_right (n z.0) (n' z.1) limit fits) h k (subst (λ (f : List Token). Longest (λ (y : A × B). w y.0 ++ w' y.1) (λ (y : A × B). Is y.0 × Is' y.0 y.1) f next) same longest) in
+        subst (λ (t : List Token). (read ⊗> next_read) t ≡ Ok (z, next ∷ behind)) (sym all) read_all);
+  }

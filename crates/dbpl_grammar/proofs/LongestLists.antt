@@ -1,17 +1,16 @@
 -- The same for a choice, for a phrase that may be absent, and for phrases that stand again and again.
-use Rattle.std.proofs.Common.{◌≡◌, ℕ, zero, suc, ◌≤◌, ◌<◌, max, Bool, true, false, ◌&&◌, ◌⊎◌, inl, inr, List, [], ◌∷◌, ◌++◌, length, flat_map, append_assoc, append-nil, length-append, Option, Some, None, Ok, refl, sym, ap, ap₂, ◌∙◌, subst, zero-le, le_refl, arith, not-suc-le-zero, true≢false, if◌then◌else◌}
-use Rattle.std.proofs.lemmas.Bool.{and_parts}
+use Rattle.std.proofs.Common.{◌≡◌, ℕ, zero, suc, ◌≤◌, ◌<◌, Bool, true, false, ◌&&◌, ◌⊎◌, inl, inr, List, [], ◌∷◌, ◌++◌, length, flat_map, append_assoc, append-nil, length-append, Option, Some, None, Ok, refl, sym, ap, ap₂, ◌∙◌, subst, zero-le, le_refl, arith, not-suc-le-zero, true≢false}
 use Rattle.dbpl_base.specs.declared.lexeme.Lexeme.{Lexeme}
 use Rattle.dbpl_base.specs.declared.token.Token.{Token}
 use Rattle.dbpl_tree.specs.Depths.{greatest, option_depth}
 use Rattle.dbpl_tree.specs.Marks.{Mark, Meets, option_marks}
-use Rattle.dbpl_grammar.specs.Reading.{Parser, ◌>>=◌, ◌<$>◌, among, begins, either, many, many_from, nothing, optional}
+use Rattle.dbpl_grammar.specs.Reading.{Parser, among, begins, either, many, many_from, optional}
 use Rattle.dbpl_grammar.proofs.ChoiceLaw.{begins_with}
-use Rattle.dbpl_grammar.proofs.JoinLaw.{ends_before, may_follow}
-use Rattle.dbpl_grammar.proofs.Law.{BeginsBy, Ends, Law, by_nothing, by_token}
+use Rattle.dbpl_grammar.proofs.JoinLaw.{ends_before}
+use Rattle.dbpl_grammar.proofs.Law.{BeginsBy, Law, by_nothing, by_token}
 use Rattle.dbpl_grammar.proofs.ListLaw.{takes_one}
 use Rattle.dbpl_grammar.proofs.Longest.{Exact, Longest, Starts, none_ends, same_front, same_place}
-use Rattle.dbpl_grammar.proofs.MeetsLaw.{meets_join, meets_shorter, meets_split}
+use Rattle.dbpl_grammar.proofs.MeetsLaw.{meets_join, meets_split}
 use Rattle.dbpl_grammar.proofs.Numbers.{max_left, max_right}
 use Rattle.dbpl_grammar.proofs.OneTree.{meets_front, meets_swap, no_front}
 use Rattle.dbpl_grammar.proofs.Sets.{apart}
@@ -64,8 +63,8 @@ module _ {A : Type 0} {w : A → List Mark} {n : A → ℕ} {limit : ℕ} {first
 
   pub exact_optional : Exact (option_marks w) (option_depth n) limit (λ (x : Option A). Unit {0}) (optional first read)
   exact_optional = record {
-      reads = λ front behind next x is fits meets longest. optional_exact front behind next x fits meets longest
-    }
+    reads = λ front behind next x is fits meets longest. optional_exact front behind next x fits meets longest;
+  }
 
 -- ---- again and again
 
@@ -74,7 +73,7 @@ module _ {A : Type 0} {w : A → List Mark} {n : A → ℕ} {limit : ℕ} {first
   one_exact : (x : A) (xs : List A) (front middle behind : List Token) (next : Token) → n x ≤ limit → greatest n xs ≤ limit → Meets (front ++ (middle ++ next ∷ behind)) (w x) (middle ++ next ∷ behind) → Meets (middle ++ next ∷ behind) (flat_map w xs) (next ∷ behind) → Longest (flat_map w) (λ (ys : List A). Unit {0}) (front ++ middle) next → read (front ++ (middle ++ next ∷ behind)) ≡ Ok (x, middle ++ next ∷ behind)
   one_exact x [] front [] behind next fits fits' h k longest =
       exact.reads front behind next x tt fits h (λ other rest y good m le.
-        longest other rest (y ∷ []) tt (subst (λ (ms : List Mark). Meets ((front ++ []) ++ next ∷ other) ms rest) (sym (append-nil (w y))) (subst (λ (f : List Token). Meets (f ++ next ∷ other) (w y) rest) (sym (append-nil front)) m)) le)
+      longest other rest (y ∷ []) tt (subst (λ (ms : List Mark). Meets ((front ++ []) ++ next ∷ other) ms rest) (sym (append-nil (w y))) (subst (λ (f : List Token). Meets (f ++ next ∷ other) (w y) rest) (sym (append-nil front)) m)) le)
   one_exact x [] front (token ∷ middle) behind next fits fits' h k longest =
       let lengths : length ((token ∷ middle) ++ next ∷ behind) ≡ length (next ∷ behind) = ap (λ (t : List Token). length t) k in
       let parts = length-append (token ∷ middle) (next ∷ behind) in
@@ -103,11 +102,11 @@ module _ {A : Type 0} {w : A → List Mark} {n : A → ℕ} {limit : ℕ} {first
       let shorter = takes_one first (ahead.0 ++ (between.0 ++ next ∷ behind)) (between.0 ++ next ∷ behind) begun in
       let enough_left : length (ahead.0 ++ (between.0 ++ next ∷ behind)) < suc turns = subst (λ (t : List Token). length t < suc turns) all enough in
       let later = many_exact xs turns (before ++ x ∷ []) between.0 behind next (max_right (n x) (greatest n xs) limit fits) k (λ other rest ys good m le.
-        long other rest (x ∷ ys) tt (subst (λ (t : List Token). Meets t (w x ++ flat_map w ys) rest) (sym (append_assoc ahead.0 between.0 (next ∷ other))) (meets_join (w x) (flat_map w ys) (ahead.0 ++ (between.0 ++ next ∷ other)) (between.0 ++ next ∷ other) rest (meets_swap (w x) ahead.0 (between.0 ++ next ∷ behind) (between.0 ++ next ∷ other) (same_place between.0 behind other next) h) m)) le) (omega arith) in
+      long other rest (x ∷ ys) tt (subst (λ (t : List Token). Meets t (w x ++ flat_map w ys) rest) (sym (append_assoc ahead.0 between.0 (next ∷ other))) (meets_join (w x) (flat_map w ys) (ahead.0 ++ (between.0 ++ next ∷ other)) (between.0 ++ next ∷ other) rest (meets_swap (w x) ahead.0 (between.0 ++ next ∷ behind) (between.0 ++ next ∷ other) (same_place between.0 behind other next) h) m)) le) (omega arith) in
       subst (λ (t : List Token). many_from first read (suc turns) before t ≡ Ok (before ++ x ∷ xs, next ∷ behind)) (sym all) (rw (begins_with first (ahead.0 ++ (between.0 ++ next ∷ behind)) (between.0 ++ next ∷ behind) begun, one) (later ∙ ap (λ (ys : List A). Ok (ys, next ∷ behind)) (append_assoc before (x ∷ []) xs)))
 
   pub exact_many : Exact (flat_map w) (greatest n) limit (λ (x : List A). Unit {0}) (many first read)
   exact_many = record {
-      reads = λ front behind next x is fits meets longest.
-          many_exact x (suc (length (front ++ next ∷ behind))) [] front behind next fits meets longest (le_refl (suc (length (front ++ next ∷ behind))))
-    }
+    reads = λ front behind next x is fits meets longest.
+        many_exact x (suc (length (front ++ next ∷ behind))) [] front behind next fits meets longest (le_refl (suc (length (front ++ next ∷ behind))));
+  }

@@ -1,31 +1,18 @@
 -- With each lexeme of a table of operators one of them is spelled.
 use Rattle.dbpl_base.specs.declared.lexeme.Lexeme.{Lexeme}
-use Rattle.dbpl_grammar.proofs.Law.{Law}
 use Rattle.dbpl_grammar.proofs.Sets.{is_fixed}
-use Rattle.dbpl_grammar.proofs.TokenLaw.{law_leaf, table_says}
-use Rattle.dbpl_grammar.specs.Expressions.{adding_first, adding_of, multiplying_first, multiplying_of, not_first, not_of, quantifier_first, quantifier_of, relation_of, relations_first, sign_of, signs_first}
-use Rattle.dbpl_grammar.specs.Reading.{among, leaf}
-use Rattle.dbpl_grammar.specs.Statements.{change_first, change_of}
-use Rattle.dbpl_grammar.specs.Units.{routine_first, routine_of}
-use Rattle.dbpl_tree.specs.Marks.{Of}
-use Rattle.dbpl_tree.specs.Operators.{adding_lexeme, change_lexeme, multiplying_lexeme, not_lexeme, quantifier_lexeme, relation_lexeme, routine_lexeme, sign_lexeme}
-use Rattle.dbpl_tree.specs.declared.heading.RoutineWord.TheVariants as routine_words
-use Rattle.dbpl_tree.specs.declared.heading.RoutineWord.{RoutineWord}
+use Rattle.dbpl_grammar.specs.Expressions.{adding_first, multiplying_first, relations_first, signs_first}
+use Rattle.dbpl_grammar.specs.Reading.{among}
+use Rattle.dbpl_tree.specs.Operators.{adding_lexeme, multiplying_lexeme, relation_lexeme, sign_lexeme}
 use Rattle.dbpl_tree.specs.declared.operators.AddingOperator.TheVariants as adding
 use Rattle.dbpl_tree.specs.declared.operators.AddingOperator.{AddingOperator}
-use Rattle.dbpl_tree.specs.declared.operators.ChangeOperator.TheVariants as changes
-use Rattle.dbpl_tree.specs.declared.operators.ChangeOperator.{ChangeOperator}
 use Rattle.dbpl_tree.specs.declared.operators.MultiplyingOperator.TheVariants as multiplying
 use Rattle.dbpl_tree.specs.declared.operators.MultiplyingOperator.{MultiplyingOperator}
-use Rattle.dbpl_tree.specs.declared.operators.NotOperator.TheVariants as negation
-use Rattle.dbpl_tree.specs.declared.operators.NotOperator.{NotOperator}
-use Rattle.dbpl_tree.specs.declared.operators.Quantifier.TheVariants as quantifiers
-use Rattle.dbpl_tree.specs.declared.operators.Quantifier.{Quantifier}
 use Rattle.dbpl_tree.specs.declared.operators.Relation.TheVariants as relations
 use Rattle.dbpl_tree.specs.declared.operators.Relation.{Relation}
 use Rattle.dbpl_tree.specs.declared.operators.SignOperator.TheVariants as signs
 use Rattle.dbpl_tree.specs.declared.operators.SignOperator.{SignOperator}
-use Rattle.std.proofs.Common.{◌≡◌, ℕ, true, false, [], ◌∷◌, Some, refl}
+use Rattle.std.proofs.Common.{◌≡◌, true, [], ◌∷◌, refl}
 use Rattle.dbpl_grammar.proofs.Sharp.{in_table}
 
 pub all_relation : (lexeme : Lexeme) → among relations_first lexeme ≡ true → (x : Relation) × (lexeme ≡ relation_lexeme x)

@@ -1,5 +1,5 @@
 -- The law of a reading function, with what is read where nothing longer begins; of phrases of which each tree is meant.
-use Rattle.std.proofs.Common.{◌≡◌, ℕ, zero, suc, ◌≤◌, ◌<◌, max, Bool, true, false, ◌&&◌, not, ◌||◌, List, [], ◌∷◌, ◌++◌, length, flat_map, append-nil, map, ⊎_elim, Option, Some, None, Ok, refl, sym, ap, ◌∙◌, subst, arith, true≢false}
+use Rattle.std.proofs.Common.{◌≡◌, ℕ, ◌≤◌, max, Bool, true, false, ◌&&◌, not, ◌||◌, List, [], ◌∷◌, ◌++◌, flat_map, map, ⊎_elim, Some, None, refl, sym, subst, arith, true≢false}
 use Rattle.std.proofs.lemmas.Bool.{and_parts, or_cases}
 use Rattle.dbpl_base.specs.declared.lexeme.Lexeme.{Lexeme}
 use Rattle.dbpl_base.specs.declared.place.Place.{Place}
@@ -7,14 +7,14 @@ use Rattle.dbpl_base.specs.declared.token.Token.{Token}
 use Rattle.dbpl_tree.specs.Depths.{greatest, option_depth}
 use Rattle.dbpl_tree.specs.Marks.{Mark, Of, Before, Meets, option_marks}
 use Rattle.dbpl_grammar.specs.Reading.{Parser, ◌<$>◌, ◌⊗◌, after, among, here, like, many, optional}
-use Rattle.dbpl_grammar.proofs.ChoiceLaw.{law_counted, law_wider}
+use Rattle.dbpl_grammar.proofs.ChoiceLaw.{law_wider}
 use Rattle.dbpl_grammar.proofs.Every.{Every, all_those, both, made, maybe}
 use Rattle.dbpl_grammar.proofs.JoinLaw.{first_of, may_follow}
-use Rattle.dbpl_grammar.proofs.Law.{BeginsBy, Law, by_nothing, by_token}
+use Rattle.dbpl_grammar.proofs.Law.{BeginsBy}
 use Rattle.dbpl_grammar.proofs.ListLaw.{takes_one}
 use Rattle.dbpl_grammar.proofs.Longest.{Exact, Starts, exact_after, exact_all, exact_made, exact_plain, exact_then}
 use Rattle.dbpl_grammar.proofs.LongestLists.{exact_many, exact_optional}
-use Rattle.dbpl_grammar.proofs.MeetsLaw.{meets_join, meets_shorter, meets_split}
+use Rattle.dbpl_grammar.proofs.MeetsLaw.{meets_shorter, meets_split}
 use Rattle.dbpl_grammar.proofs.Numbers.{max_left}
 use Rattle.dbpl_grammar.proofs.Sets.{apart, fixed_is, is_fixed, is_word, within, word_fixed}
 use Rattle.dbpl_grammar.proofs.TokenLaw.{law_after, law_here}
@@ -63,9 +63,9 @@ sharp_after lexeme word sharp = record { law = law_after lexeme word sharp.law; 
 
 pub sharp_pair : {A B : Type 0} {w : A → List Mark} {n : A → ℕ} {limit : ℕ} {first more : List Lexeme} {empty : Bool} {read : Parser A} {w' : B → List Mark} {n' : B → ℕ} {second wider : List Lexeme} {none : Bool} {next : Parser B} → Sharp w n limit first more empty read → Sharp w' n' limit second wider none next → Bare w' n' limit → may_follow more second none wider ≡ true → Sharp (λ (x : A × B). w x.0 ++ w' x.1) (λ (x : A × B). max (n x.0) (n' x.1)) limit (first_of empty first second) wider (empty && none) (read ⊗ next)
 sharp_pair {A = A} {B = B} {more = more} {second = second} {wider = wider} {none = none} one other bare follows = record {
-    law = both one.law other.law follows;
-    exact = exact_all (λ (x : A × B). Unit {0}) (λ x is. (tt, tt)) (λ x is. tt) (exact_then one.law (λ found is. other.law) (and_parts (apart second more) (not none || within more wider) follows).0 one.exact (λ found is. other.exact) bare (λ x x' y e is. tt))
-  }
+  law = both one.law other.law follows;
+  exact = exact_all (λ (x : A × B). Unit {0}) (λ x is. (tt, tt)) (λ x is. tt) (exact_then one.law (λ found is. other.law) (and_parts (apart second more) (not none || within more wider) follows).0 one.exact (λ found is. other.exact) bare (λ x x' y e is. tt));
+}
 
 -- the second takes a token
 pub sharp_both : {A B : Type 0} {w : A → List Mark} {n : A → ℕ} {limit : ℕ} {first more : List Lexeme} {empty : Bool} {read : Parser A} {w' : B → List Mark} {n' : B → ℕ} {second wider : List Lexeme} {next : Parser B} → Sharp w n limit first more empty read → Sharp w' n' limit second wider false next → may_follow more second false wider ≡ true → Sharp (λ (x : A × B). w x.0 ++ w' x.1) (λ (x : A × B). max (n x.0) (n' x.1)) limit (first_of empty first second) wider (empty && false) (read ⊗ next)
@@ -76,15 +76,15 @@ sharp_maybe sharp starts = record { law = maybe sharp.law; exact = exact_optiona
 
 pub sharp_many : {A : Type 0} {w : A → List Mark} {n : A → ℕ} {limit : ℕ} {first more : List Lexeme} {read : Parser A} → Sharp w n limit first more false read → may_follow more first true (first ++ more) ≡ true → Starts w (λ (x : A). Unit {0}) first → Sharp (flat_map w) (greatest n) limit first (first ++ more) true (many first read)
 sharp_many {first = first} {more = more} sharp follows starts = record {
-    law = all_those sharp.law follows;
-    exact = exact_many sharp.law sharp.exact starts (and_parts (apart first more) (within more (first ++ more)) follows).0
-  }
+  law = all_those sharp.law follows;
+  exact = exact_many sharp.law sharp.exact starts (and_parts (apart first more) (within more (first ++ more)) follows).0;
+}
 
 pub sharp_made : {A B : Type 0} {w : A → List Mark} {n : A → ℕ} {limit : ℕ} {first more : List Lexeme} {empty : Bool} {read : Parser A} (w' : B → List Mark) (n' : B → ℕ) → Sharp w n limit first more empty read → (make : A → B) (unmake : B → A) → ((x : A) → w' (make x) ≡ w x) → ((x : A) → n' (make x) ≡ n x) → ((y : B) → make (unmake y) ≡ y) → Sharp w' n' limit first more empty (make <$> read)
 sharp_made {A = A} {B = B} w' n' sharp make unmake marks depth again = record {
-    law = made w' n' sharp.law make unmake marks depth again;
-    exact = exact_made w' n' (λ (y : B). Unit {0}) sharp.exact make (λ x is. marks x) (λ x is. depth x) (λ x is. tt) (λ y is. (unmake y, tt, again y))
-  }
+  law = made w' n' sharp.law make unmake marks depth again;
+  exact = exact_made w' n' (λ (y : B). Unit {0}) sharp.exact make (λ x is. marks x) (λ x is. depth x) (λ x is. tt) (λ y is. (unmake y, tt, again y));
+}
 
 -- ---- what a spelling begins with
 

@@ -1,30 +1,24 @@
 -- Expressions and designators over any factors are read where nothing longer begins.
-use Rattle.std.proofs.Common.{◌≡◌, ℕ, max, Bool, true, false, List, [], ◌∷◌, ◌++◌, append-nil, Option, Some, None, refl, sym, ap, ◌∙◌, subst, arith, true≢false, ◌⊎◌, inl, inr}
+use Rattle.std.proofs.Common.{◌≡◌, ℕ, max, true, false, List, [], ◌∷◌, ◌++◌, append-nil, None, refl, sym, subst, arith, ◌⊎◌, inl, inr}
 use Rattle.std.proofs.lemmas.Bool.{or_cases}
 use Rattle.dbpl_base.specs.declared.lexeme.Lexeme.{Lexeme}
 use Rattle.dbpl_base.specs.declared.lexeme.Lexeme.TheVariants as lexemes
 use Rattle.dbpl_base.specs.declared.place.Place.{Place}
 use Rattle.dbpl_base.specs.declared.token.Token.{Token}
-use Rattle.dbpl_tree.specs.Depths.{added_depth, arguments_depth, compared_depth, designator_depth, expr_depth, multiplied_depth, option_depth, part_depth, simple_depth, term_depth}
+use Rattle.dbpl_tree.specs.Depths.{added_depth, arguments_depth, compared_depth, designator_depth, expr_depth, multiplied_depth, option_depth, simple_depth, term_depth}
 use Rattle.dbpl_tree.specs.Expressions.{added_marks, arguments_marks, compared_marks, designator_marks, expr_marks, exprs_marks, multiplied_marks, part_marks, simple_marks, term_marks}
 use Rattle.dbpl_tree.specs.Marks.{Mark, Of, Meets, option_marks}
-use Rattle.dbpl_tree.specs.Operators.{adding_lexeme, multiplying_lexeme, relation_lexeme, sign_lexeme}
+use Rattle.dbpl_tree.specs.Operators.{sign_lexeme}
 use Rattle.dbpl_tree.specs.Words.{full_stop, left_bracket, left_parenthesis, right_bracket, right_parenthesis}
 use Rattle.dbpl_tree.specs.declared.designator.ArgumentsOf.{ArgumentsOf}
-use Rattle.dbpl_tree.specs.declared.designator.DesignatorOf.{DesignatorOf}
 use Rattle.dbpl_tree.specs.declared.designator.PartOf.{PartOf}
 use Rattle.dbpl_tree.specs.declared.designator.PartOf.TheVariants.{Field, Subscripts}
 use Rattle.dbpl_tree.specs.declared.expr.ComparedOf.{ComparedOf}
 use Rattle.dbpl_tree.specs.declared.expr.ExprOf.{ExprOf}
-use Rattle.dbpl_tree.specs.declared.operators.AddingOperator.{AddingOperator}
-use Rattle.dbpl_tree.specs.declared.operators.MultiplyingOperator.{MultiplyingOperator}
-use Rattle.dbpl_tree.specs.declared.operators.Relation.{Relation}
 use Rattle.dbpl_tree.specs.declared.operators.SignOperator.{SignOperator}
 use Rattle.dbpl_tree.specs.declared.simple.AddedOf.{AddedOf}
-use Rattle.dbpl_tree.specs.declared.simple.SimpleOf.{SimpleOf}
 use Rattle.dbpl_tree.specs.declared.term.MultipliedOf.{MultipliedOf}
-use Rattle.dbpl_tree.specs.declared.term.TermOf.{TermOf}
-use Rattle.dbpl_grammar.specs.Expressions.{added, adding_first, arguments, compared, designator, expr, expr_first, factor_first, ident_first, multiplied, multiplying_first, part, part_first, relations_first, signs_first, simple, term}
+use Rattle.dbpl_grammar.specs.Expressions.{added, adding_first, arguments, compared, designator, expr, expr_first, factor_first, ident_first, multiplied, multiplying_first, part_first, relations_first, signs_first, simple, term}
 use Rattle.dbpl_grammar.specs.Reading.{Parser, among, like, optional}
 use Rattle.dbpl_grammar.proofs.Every.{Every, shallow_option}
 use Rattle.dbpl_grammar.proofs.ExprLaw.{expr_more, factor_more, law_arguments, law_part, simple_more, term_more}
@@ -35,7 +29,7 @@ use Rattle.dbpl_grammar.proofs.OneTree.{meets_swap}
 use Rattle.dbpl_grammar.proofs.OperatorLaw.{law_adding, law_multiplying, law_relation, law_sign}
 use Rattle.dbpl_grammar.proofs.OperatorTables.{all_adding, all_multiplying, all_relation, all_sign}
 use Rattle.dbpl_grammar.proofs.Sets.{fixed_is}
-use Rattle.dbpl_grammar.proofs.Sharp.{Sharp, SomeOf, bare_many, bare_maybe, only_one, sharp_both, sharp_here, sharp_made, sharp_many, sharp_maybe, sharp_pair, sharp_plain, starts_here, starts_leaf, starts_leaf_then, starts_made}
+use Rattle.dbpl_grammar.proofs.Sharp.{Sharp, SomeOf, bare_many, bare_maybe, only_one, sharp_both, sharp_here, sharp_made, sharp_many, sharp_maybe, sharp_pair, sharp_plain, starts_leaf}
 
 starts_sign : Starts (λ (x : SignOperator). Of (sign_lexeme x) ∷ []) (λ (x : SignOperator). Unit {0}) signs_first
 starts_sign = starts_leaf sign_lexeme signs_first all_sign

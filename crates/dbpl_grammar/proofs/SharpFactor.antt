@@ -1,11 +1,11 @@
 -- Factors, ranges and aggregates are read where nothing longer begins, and so are expressions at every depth.
-use Rattle.std.proofs.Common.{◌≡◌, ℕ, zero, suc, ◌≤◌, max, Bool, true, false, ◌⊎◌, inl, inr, List, [], ◌∷◌, ◌++◌, length, append-nil, Option, Some, None, Ok, refl, sym, ap, ◌∙◌, subst, arith, not-suc-le-zero, true≢false, if◌then◌else◌}
+use Rattle.std.proofs.Common.{◌≡◌, ℕ, zero, suc, Bool, true, false, ◌⊎◌, inl, inr, List, [], ◌∷◌, Option, Some, None, refl, sym, ◌∙◌, subst, arith, not-suc-le-zero, true≢false, if◌then◌else◌}
 use Rattle.dbpl_base.specs.declared.lexeme.Lexeme.{Lexeme}
 use Rattle.dbpl_base.specs.declared.lexeme.Lexeme.TheVariants as lexemes
 use Rattle.dbpl_base.specs.declared.place.Place.{Place}
 use Rattle.dbpl_base.specs.declared.token.Token.{Token}
-use Rattle.dbpl_tree.specs.Depths.{arguments_depth, designator_depth, element_depth, expr_depth, factor_depth, greatest, option_depth, range_depth}
-use Rattle.dbpl_tree.specs.Expressions.{arguments_marks, designator_marks, expr_marks}
+use Rattle.dbpl_tree.specs.Depths.{element_depth, expr_depth, factor_depth, greatest, option_depth, range_depth}
+use Rattle.dbpl_tree.specs.Expressions.{expr_marks}
 use Rattle.dbpl_tree.specs.Factors.{factor_marks, range_marks}
 use Rattle.dbpl_tree.specs.Marks.{Mark, Of, Before, Meets, option_marks}
 use Rattle.dbpl_tree.specs.Words.{left_brace, left_parenthesis, right_brace}
@@ -17,24 +17,22 @@ use Rattle.dbpl_tree.specs.declared.factor.Factor.{Factor}
 use Rattle.dbpl_tree.specs.declared.factor.Factor.TheVariants as factors
 use Rattle.dbpl_tree.specs.declared.operators.NotOperator.{NotOperator}
 use Rattle.dbpl_tree.specs.declared.range.Range.{Range}
-use Rattle.dbpl_grammar.specs.Expressions.{Behind, Braced, Called, Inner, at_depth, behind, braced, called, char_code, expr, expr_first, factor, factor_first, ident_first, is_qual, named, named_made, negated, not_first, number, parenthesized, part_first, quantified, quantifier_first, range, range_made, text}
+use Rattle.dbpl_grammar.specs.Expressions.{Behind, Braced, Called, Inner, at_depth, behind, braced, called, expr, expr_first, factor, factor_first, ident_first, is_qual, named, named_made, negated, not_first, quantifier_first, range, range_made}
 use Rattle.dbpl_grammar.specs.Lexemes.{a_char_code, a_number, a_text}
-use Rattle.dbpl_grammar.specs.Reading.{Parser, ◌<$>◌, ◌⊗◌, either, nothing, optional, too_deep}
-use Rattle.dbpl_grammar.proofs.ChoiceLaw.{law_either, law_nothing, law_wider}
-use Rattle.dbpl_grammar.proofs.Every.{Every, both, variant}
-use Rattle.dbpl_grammar.proofs.ExprLaw.{expr_more, factor_more, law_designator}
+use Rattle.dbpl_grammar.specs.Reading.{◌<$>◌, either, nothing, optional, too_deep}
+use Rattle.dbpl_grammar.proofs.ChoiceLaw.{law_either, law_nothing}
+use Rattle.dbpl_grammar.proofs.Every.{variant}
+use Rattle.dbpl_grammar.proofs.ExprLaw.{factor_more, law_designator}
 use Rattle.dbpl_grammar.proofs.FactorLaw.{IsNamed, IsNot, MayStand, behind_depth, behind_marks, factor_as, factor_cases, inner_law, law_behind, law_braces, law_called, law_char_code, law_factor, law_named, law_not_factor, law_number, law_parenthesized, law_quantified, law_text, named_depth, named_marks, plain_char_code, plain_number, plain_parenthesized, plain_quantified, plain_text, range_counts}
 use Rattle.dbpl_grammar.proofs.FactorLaw as alternatives
-use Rattle.dbpl_grammar.proofs.InnerLaw.{InnerLaw, braced_marks, law_braced, negated_depth, negated_marks, range_more}
-use Rattle.dbpl_grammar.proofs.JoinLaw.{law_made}
-use Rattle.dbpl_grammar.proofs.Law.{Law}
-use Rattle.dbpl_grammar.proofs.Longest.{Exact, Longest, Starts, exact_all, exact_counted, exact_made, exact_never, exact_plain, exact_then}
+use Rattle.dbpl_grammar.proofs.InnerLaw.{InnerLaw, braced_marks, law_braced, negated_depth, negated_marks}
+use Rattle.dbpl_grammar.proofs.Longest.{Exact, Starts, exact_all, exact_counted, exact_made, exact_never, exact_plain, exact_then}
 use Rattle.dbpl_grammar.proofs.LongestLists.{exact_either, not_empty}
 use Rattle.dbpl_grammar.proofs.MeetsLaw.{meets_shorter}
 use Rattle.dbpl_grammar.proofs.OperatorLaw.{law_not}
 use Rattle.dbpl_grammar.proofs.RangeLaw.{MayBrace, brace_first, range_cases, range_depth_made, range_marks_made}
 use Rattle.dbpl_grammar.proofs.RangeLaw as ranges
-use Rattle.dbpl_grammar.proofs.Sharp.{Sharp, SomeOf, bare_maybe, only_one, sharp_both, sharp_here, sharp_maybe, sharp_plain}
+use Rattle.dbpl_grammar.proofs.Sharp.{Sharp, SomeOf, only_one, sharp_both, sharp_here, sharp_maybe, sharp_plain}
 use Rattle.dbpl_grammar.proofs.SharpExpr.{sharp_designator, sharp_expr_inside, sharp_maybe_arguments, sign_token, some_expr}
 
 -- 0
@@ -104,6 +102,7 @@ module _ {limit : ℕ} {inner : Inner} (all : InnerExact limit inner) where
       to : (y : Behind) → IsBraced y ⊎ IsCalled y
       to (Braced xs) = inl (xs, refl)
       to (Called arguments) = inr (arguments, refl)
+
       back : (y : Behind) → MayStand found y
       back (Braced xs) = is
       back (Called arguments) = tt
@@ -162,6 +161,7 @@ module _ {limit : ℕ} {inner : Inner} (all : InnerExact limit inner) where
       bare_elements : (y : Option (List Element)) (rest : List Token) → Meets rest (option_marks braced_marks y) rest → option_marks braced_marks y ≡ []
       bare_elements None rest h = refl
       bare_elements (Some xs) rest h = absurd (of_takes left_brace _ rest h)
+
       free_elements : (x x' : DesignatorOf Factor) (y : Option (List Element)) → option_marks braced_marks y ≡ [] → MayBrace x y → MayBrace x' y
       free_elements x x' None e is = tt
       free_elements x x' (Some xs) e is = absurd (let some : Of left_brace ∷ _ ≡ [] = e in cc)
@@ -177,7 +177,7 @@ module _ {limit : ℕ} {inner : Inner} (all : InnerExact limit inner) where
       let inside = exact_counted (sharp_both (sharp_here limit) (sharp_both (sharp_plain (law_not limit)) sharp_factor refl) refl).exact in
       record {
         reads = λ front behind next x is fits meets longest.
-            inside.reads front behind next x is (let below = fits in omega arith) meets longest
+            inside.reads front behind next x is (let below = fits in omega arith) meets longest;
       }
 
   exact_expr : Exact (expr_marks factor_marks) (expr_depth factor_depth) (suc limit) (λ (x : ExprOf Factor). Unit {0}) (expr (factor inner))

@@ -170,7 +170,7 @@ no_end_middle (token ∷ front) more finish is e =
     no_end_middle front more finish is parts.1
 
 -- tokens free of the end of the text aren't all of a text
-not_all : (tokens front : List Token) → HasEnd tokens → no_end front ≡ true → tokens ≡ front → ⊥
+pub not_all : (tokens front : List Token) → HasEnd tokens → no_end front ≡ true → tokens ≡ front → ⊥
 not_all tokens front end inside same =
     no_end_middle end.0 [] end.1 end.3 (ap (λ (t : List Token). no_end t) (sym end.2 ∙ same) ∙ inside)
 

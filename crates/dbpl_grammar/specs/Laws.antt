@@ -1,12 +1,12 @@
 -- What is claimed of the grammar, and of what is read by it.
-use Rattle.std.specs.Prelude.{◌≡◌, ◌≢◌, ◌≤◌, List, [], ◌∷◌, ◌++◌, Ok, Err}
+use Rattle.std.specs.Prelude.{◌≡◌, ◌≢◌, ℕ, ◌≤◌, List, [], ◌∷◌, ◌++◌, length, Ok, Err}
 use Rattle.dbpl_base.specs.declared.lexeme.Lexeme.TheVariants.{Finish}
 use Rattle.dbpl_base.specs.declared.token.Token.{Token}
 use Rattle.dbpl_tree.specs.Marks.{Mark, Meets}
 use Rattle.dbpl_tree.specs.UnitDepths.{unit_depth}
 use Rattle.dbpl_tree.specs.Units.{SpellsUnit}
 use Rattle.dbpl_tree.specs.declared.unit.Unit.{Unit as Module}
-use Rattle.dbpl_grammar.specs.Reading.{Refused}
+use Rattle.dbpl_grammar.specs.Reading.{Parser, Refused}
 use Rattle.dbpl_grammar.specs.Units.{depth_limit, whole_unit}
 
 -- two trees that the same tokens spell are equal, whatever stands behind them
@@ -48,3 +48,49 @@ HasEnd tokens = (front : List Token) × (finish : Token) × (tokens ≡ front ++
 abbrev pub NamesToken : Type 0
 NamesToken =
     (tokens : List Token) (refused : Refused) → HasEnd tokens → whole_unit depth_limit tokens ≡ Err refused → refused.rest ≢ []
+
+-- ---- phrases at the front of tokens
+
+-- no spelling of such a phrase begins with these tokens and the next one
+abbrev pub NoneLonger : {A : Type 0} → (A → List Mark) → List Token → Token → Type 0
+NoneLonger {A = A} marks front next =
+    (other rest : List Token) (x : A) → Meets (front ++ next ∷ other) (marks x) rest → length rest ≤ length other → ⊥
+
+-- THE phrase at the front of these tokens: it is spelled up to the next token and isn't deeper than the limit, and none
+-- of any depth begins with its tokens and the next one.
+pub record Stands {A : Type 0} (marks : A → List Mark) (depth : A → ℕ) (limit : ℕ) (tokens : List Token) (phrase : A)
+    (rest : List Token) : Type 0 where
+  pub front : List Token
+  pub next : Token
+  pub behind : List Token
+  pub split : tokens ≡ front ++ next ∷ behind
+  pub left : rest ≡ next ∷ behind
+  pub spelled : Meets tokens (marks phrase) rest
+  pub fits : depth phrase ≤ limit
+  pub longest : NoneLonger marks front next
+
+-- No such phrase that isn't too deep begins with the tokens up to and with the first one of the rest.
+pub record NoPhraseBegins {A : Type 0} (marks : A → List Mark) (depth : A → ℕ) (limit : ℕ) (tokens rest : List Token) : Type 0 where
+  pub front : List Token
+  pub split : tokens ≡ front ++ rest
+  pub none : (token : Token) (behind other left : List Token) (phrase : A) → rest ≡ token ∷ behind → Meets (front ++ token ∷ other) (marks phrase) left → length left ≤ length other → depth phrase ≤ limit → ⊥
+
+-- what is read is the phrase at the front
+abbrev pub ReadsPhrase : {A : Type 0} → (A → List Mark) → (A → ℕ) → (ℕ → Parser A) → Type 0
+ReadsPhrase {A = A} marks depth read =
+    (limit : ℕ) (tokens rest : List Token) (phrase : A) → HasEnd tokens → read limit tokens ≡ Ok (phrase, rest) → Stands marks depth limit tokens phrase rest
+
+-- the phrase at the front is read
+abbrev pub PhraseIsRead : {A : Type 0} → (A → List Mark) → (A → ℕ) → (ℕ → Parser A) → Type 0
+PhraseIsRead {A = A} marks depth read =
+    (limit : ℕ) (tokens rest : List Token) (phrase : A) → Stands marks depth limit tokens phrase rest → read limit tokens ≡ Ok (phrase, rest)
+
+-- a refusal names the tokens from one on with which no phrase begins
+abbrev pub RefusesPhrase : {A : Type 0} → (A → List Mark) → (A → ℕ) → (ℕ → Parser A) → Type 0
+RefusesPhrase marks depth read =
+    (limit : ℕ) (tokens : List Token) (refused : Refused) → read limit tokens ≡ Err refused → NoPhraseBegins marks depth limit tokens refused.rest
+
+-- where the tokens have an end, a refusal names a token
+abbrev pub NamesPhraseToken : {A : Type 0} → (ℕ → Parser A) → Type 0
+NamesPhraseToken read =
+    (limit : ℕ) (tokens : List Token) (refused : Refused) → HasEnd tokens → read limit tokens ≡ Err refused → refused.rest ≢ []

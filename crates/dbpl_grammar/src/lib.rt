@@ -4,4 +4,6 @@
 
 mod laws;
 
-pub use laws::{one_tree, reads_units};
+pub use laws::{
+    one_tree, reads_aggregates, reads_designators, reads_expressions, reads_ranges, reads_units,
+};
