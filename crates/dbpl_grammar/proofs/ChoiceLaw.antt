@@ -107,13 +107,6 @@ abbrev pub IfThere : {A : Type 0} → (A → Type 0) → Option A → Type 0
 IfThere Is None = Unit {0}
 IfThere Is (Some found) = Is found
 
-some_is : {A : Type 0} (one other : A) → Some one ≡ Some other → one ≡ other
-some_is {A = A} one other e = ap (λ (o : Option A). or_one o) e
-  where
-    or_one : Option A → A
-    or_one (Some found) = found
-    or_one None = one
-
 module _ {A : Type 0} {w : A → List Mark} {n : A → ℕ} {limit : ℕ} {first more : List Lexeme} {Is : A → Type 0} {read : Parser A} (law : Law w n limit first more false Is read) where
   optional_begins : (found : Option A) (tokens rest : List Token) → IfThere Is found → option_depth n found ≤ limit → Meets tokens (option_marks w found) rest → BeginsBy first true tokens rest
   optional_begins None tokens rest is fits meets = by_nothing refl meets

@@ -27,16 +27,6 @@ takes_one first tokens rest (by_token token behind split is shorter) =
     omega arith
 takes_one first tokens rest (by_nothing none split) = absurd (true≢false (sym none))
 
--- where none of the first nor of the others stands, none of the others does
-ends_second : (first more : List Lexeme) (rest : List Token) → Ends (first ++ more) rest → Ends more rest
-ends_second first more [] e = refl
-ends_second first more (token ∷ rest) e =
-    by_among (among first token.lexeme) (among more token.lexeme) (sym (among_append first more token.lexeme) ∙ e)
-  where
-    by_among : (a b : Bool) → (a || b) ≡ false → b ≡ false
-    by_among true b e = absurd (true≢false e)
-    by_among false b e = e
-
 ends_first : (first more : List Lexeme) (rest : List Token) → Ends (first ++ more) rest → Ends first rest
 ends_first first more [] e = refl
 ends_first first more (token ∷ rest) e =

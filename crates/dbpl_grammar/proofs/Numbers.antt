@@ -1,5 +1,5 @@
 -- The greater of two numbers.
-use Rattle.std.proofs.Common.{◌≡◌, ℕ, ◌≤◌, max, arith}
+use Rattle.std.proofs.Common.{ℕ, ◌≤◌, max, arith}
 
 pub max_left : (a b limit : ℕ) → max a b ≤ limit → a ≤ limit
 max_left a b limit h = omega arith
@@ -9,6 +9,3 @@ max_right a b limit h = omega arith
 
 pub max_both : (a b limit : ℕ) → a ≤ limit → b ≤ limit → max a b ≤ limit
 max_both a b limit h k = omega arith
-
-pub max_test : (a b : ℕ) → max 0 (max a (max 0 (max b 0))) ≡ max a b
-max_test a b = omega arith

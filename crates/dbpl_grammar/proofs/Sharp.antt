@@ -1,23 +1,22 @@
 -- The law of a reading function, with what is read where nothing longer begins; of phrases of which each tree is meant.
-use Rattle.std.proofs.Common.{◌≡◌, ℕ, ◌≤◌, max, Bool, true, false, ◌&&◌, not, ◌||◌, List, [], ◌∷◌, ◌++◌, flat_map, map, ⊎_elim, Some, None, refl, sym, subst, arith, true≢false}
+use Rattle.std.proofs.Common.{◌≡◌, ℕ, ◌≤◌, max, Bool, true, false, ◌&&◌, not, ◌||◌, List, [], ◌∷◌, ◌++◌, flat_map, map, ⊎_elim, Some, None, refl, sym, arith, true≢false}
 use Rattle.std.proofs.lemmas.Bool.{and_parts, or_cases}
 use Rattle.dbpl_base.specs.declared.lexeme.Lexeme.{Lexeme}
 use Rattle.dbpl_base.specs.declared.place.Place.{Place}
 use Rattle.dbpl_base.specs.declared.token.Token.{Token}
 use Rattle.dbpl_tree.specs.Depths.{greatest, option_depth}
 use Rattle.dbpl_tree.specs.Marks.{Mark, Of, Before, Meets, option_marks}
-use Rattle.dbpl_grammar.specs.Reading.{Parser, ◌<$>◌, ◌⊗◌, after, among, here, like, many, optional}
-use Rattle.dbpl_grammar.proofs.ChoiceLaw.{law_wider}
+use Rattle.dbpl_grammar.specs.Reading.{Parser, ◌<$>◌, ◌⊗◌, among, here, like, many, optional}
 use Rattle.dbpl_grammar.proofs.Every.{Every, all_those, both, made, maybe}
 use Rattle.dbpl_grammar.proofs.JoinLaw.{first_of, may_follow}
 use Rattle.dbpl_grammar.proofs.Law.{BeginsBy}
 use Rattle.dbpl_grammar.proofs.ListLaw.{takes_one}
-use Rattle.dbpl_grammar.proofs.Longest.{Exact, Starts, exact_after, exact_all, exact_made, exact_plain, exact_then}
+use Rattle.dbpl_grammar.proofs.Longest.{Exact, Starts, exact_all, exact_made, exact_plain, exact_then}
 use Rattle.dbpl_grammar.proofs.LongestLists.{exact_many, exact_optional}
 use Rattle.dbpl_grammar.proofs.MeetsLaw.{meets_shorter, meets_split}
 use Rattle.dbpl_grammar.proofs.Numbers.{max_left}
 use Rattle.dbpl_grammar.proofs.Sets.{apart, fixed_is, is_fixed, is_word, within, word_fixed}
-use Rattle.dbpl_grammar.proofs.TokenLaw.{law_after, law_here}
+use Rattle.dbpl_grammar.proofs.TokenLaw.{law_here}
 
 pub record Sharp {A : Type 0} (marks : A → List Mark) (depth : A → ℕ) (limit : ℕ) (first more : List Lexeme) (empty : Bool) (read : Parser A) : Type 0 where
   pub law : Every marks depth limit first more empty read
@@ -55,12 +54,6 @@ sharp_plain law = record { law = law; exact = exact_plain law }
 pub sharp_here : (limit : ℕ) → Sharp (λ (p : Place). Before p ∷ []) (λ (p : Place). 0) limit [] [] true here
 sharp_here limit = sharp_plain (law_here limit)
 
-pub sharp_wider : {A : Type 0} {w : A → List Mark} {n : A → ℕ} {limit : ℕ} {first more : List Lexeme} {empty : Bool} {read : Parser A} (first' more' : List Lexeme) → within first first' ≡ true → within more more' ≡ true → Sharp w n limit first more empty read → Sharp w n limit first' more' empty read
-sharp_wider first' more' h k sharp = record { law = law_wider first' more' h k sharp.law; exact = sharp.exact }
-
-pub sharp_after : {A : Type 0} {w : A → List Mark} {n : A → ℕ} {limit : ℕ} {first more : List Lexeme} {empty : Bool} {read : Parser A} (lexeme : Lexeme) → is_word lexeme ≡ true → Sharp w n limit first more empty read → Sharp (λ (x : A). Of lexeme ∷ w x) n limit (lexeme ∷ []) more false (after lexeme read)
-sharp_after lexeme word sharp = record { law = law_after lexeme word sharp.law; exact = exact_after lexeme sharp.exact }
-
 pub sharp_pair : {A B : Type 0} {w : A → List Mark} {n : A → ℕ} {limit : ℕ} {first more : List Lexeme} {empty : Bool} {read : Parser A} {w' : B → List Mark} {n' : B → ℕ} {second wider : List Lexeme} {none : Bool} {next : Parser B} → Sharp w n limit first more empty read → Sharp w' n' limit second wider none next → Bare w' n' limit → may_follow more second none wider ≡ true → Sharp (λ (x : A × B). w x.0 ++ w' x.1) (λ (x : A × B). max (n x.0) (n' x.1)) limit (first_of empty first second) wider (empty && none) (read ⊗ next)
 sharp_pair {A = A} {B = B} {more = more} {second = second} {wider = wider} {none = none} one other bare follows = record {
   law = both one.law other.law follows;
@@ -92,14 +85,6 @@ sharp_made {A = A} {B = B} w' n' sharp make unmake marks depth again = record {
 abbrev pub SomeOf : {A : Type 0} → (A → List Mark) → Type 0
 SomeOf {A = A} marks = (x : A) × (token : Token) × (behind : List Token) × Meets (token ∷ behind) (marks x) []
 
-pub some_here : {A : Type 0} (w : A → List Mark) → SomeOf w → SomeOf (λ (x : Place × A). (Before x.0 ∷ []) ++ w x.1)
-some_here w some = ((some.1.place, some.0), some.1, some.2, (refl, some.3))
-
-pub starts_here : {A : Type 0} (w : A → List Mark) (first : List Lexeme) → Starts w (λ (x : A). Unit {0}) first → Starts (λ (x : Place × A). (Before x.0 ∷ []) ++ w x.1) (λ (x : Place × A). Unit {0}) first
-starts_here w first starts token is =
-    let one = starts token is in
-    ((token.place, one.0), one.1, tt, (refl, one.3))
-
 -- a lexeme among those of a table is one of them
 pub in_table : {A : Type 0} (lexeme_of : A → Lexeme) (table : List A) (lexeme : Lexeme) → ((x : A) → is_fixed (lexeme_of x) ≡ true) → among (map lexeme_of table) lexeme ≡ true → (x : A) × (lexeme ≡ lexeme_of x)
 in_table lexeme_of [] lexeme fixed is = absurd (true≢false (sym is))
@@ -111,11 +96,6 @@ starts_leaf lexeme_of first all token is =
     let one = all token.lexeme is in
     (one.0, [], tt, (one.1, refl))
 
-pub starts_leaf_then : {A B : Type 0} (lexeme_of : A → Lexeme) (first : List Lexeme) (w : B → List Mark) → ((lexeme : Lexeme) → among first lexeme ≡ true → (x : A) × (lexeme ≡ lexeme_of x)) → SomeOf w → Starts (λ (x : A × B). (Of (lexeme_of x.0) ∷ []) ++ w x.1) (λ (x : A × B). Unit {0}) first
-starts_leaf_then lexeme_of first w all some token is =
-    let one = all token.lexeme is in
-    ((one.0, some.0), some.1 ∷ some.2, tt, (one.1, some.3))
-
 -- a lexeme among one is that one
 pub only_one : (one lexeme : Lexeme) → is_word one ≡ true → among (one ∷ []) lexeme ≡ true → lexeme ≡ one
 only_one one lexeme word is =
@@ -124,8 +104,3 @@ only_one one lexeme word is =
     left_true : (b : Bool) → (b || false) ≡ true → b ≡ true
     left_true true e = refl
     left_true false e = e
-
-pub starts_made : {A B : Type 0} (w : A → List Mark) (w' : B → List Mark) (first : List Lexeme) (make : A → B) → ((x : A) → w' (make x) ≡ w x) → Starts w (λ (x : A). Unit {0}) first → Starts w' (λ (x : B). Unit {0}) first
-starts_made w w' first make marks starts token is =
-    let one = starts token is in
-    (make one.0, one.1, tt, subst (λ (ms : List Mark). Meets (token ∷ one.1) ms []) (sym (marks one.0)) one.3)

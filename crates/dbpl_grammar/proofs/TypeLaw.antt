@@ -31,9 +31,6 @@ use Rattle.dbpl_grammar.proofs.TokenLaw.{law_after, law_here}
 abbrev pub type_more : List Lexeme
 type_more = full_stop ∷ []
 
-abbrev pub fields_first : List Lexeme
-fields_first = ident_first
-
 module _ {limit : ℕ} {type : Parser TypeTree} (law : Every type_marks type_depth limit type_first type_more false type) where
   law_some_fields : Law (fields_marks type_marks) (fields_depth type_depth) limit ident_first (ident_first ++ type_more) false (λ (y : FieldsOf TypeTree). (x : Idents × TypeTree) × (fields_of.Fields x.0 x.1 ≡ y)) ((λ found. fields_of.Fields found.0 found.1) <$> (idents ⊗ after colon type))
   law_some_fields =
