@@ -6,11 +6,11 @@ use Rattle.dbpl_base.specs.declared.token.Token.{Token}
 use Rattle.dbpl_tree.specs.Marks.{Mark, Meets}
 use Rattle.dbpl_grammar.specs.Laws.{NamesPhraseToken, NoneLonger, PhraseIsRead, ReadsPhrase, RefusesPhrase, Stands}
 use Rattle.dbpl_grammar.specs.Reading.{Parser, Refused, among}
+use Rattle.dbpl_grammar.proofs.MeetsLaw.{SamePlace, meets_front, meets_swap, same_front}
 use Rattle.dbpl_grammar.proofs.Every.{Every}
 use Rattle.dbpl_grammar.proofs.Grows.{Grows}
 use Rattle.dbpl_grammar.proofs.Law.{Ends, Steady}
-use Rattle.dbpl_grammar.proofs.Longest.{Exact, same_front}
-use Rattle.dbpl_grammar.proofs.OneTree.{SamePlace, meets_front, meets_swap}
+use Rattle.dbpl_grammar.proofs.Longest.{Exact}
 use Rattle.dbpl_grammar.proofs.TokenLaw.{err_isnt, ok_is}
 use Rattle.dbpl_grammar.proofs.WholeLaw.{not_all}
 

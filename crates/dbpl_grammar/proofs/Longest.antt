@@ -6,9 +6,8 @@ use Rattle.dbpl_tree.specs.Marks.{Mark, Of, Meets}
 use Rattle.dbpl_grammar.specs.Reading.{Parser, ◌<$>◌, ◌⊗>◌, after, among}
 use Rattle.dbpl_grammar.proofs.JoinLaw.{ends_before}
 use Rattle.dbpl_grammar.proofs.Law.{BeginsBy, Ends, Law, by_nothing, by_token}
-use Rattle.dbpl_grammar.proofs.MeetsLaw.{meets_join, meets_shorter, meets_split}
+use Rattle.dbpl_grammar.proofs.MeetsLaw.{SamePlace, meets_front, meets_join, meets_shorter, meets_split, meets_swap, same_front, same_place}
 use Rattle.dbpl_grammar.proofs.Numbers.{max_left, max_right}
-use Rattle.dbpl_grammar.proofs.OneTree.{SamePlace, meets_front, meets_swap}
 use Rattle.dbpl_grammar.proofs.Sets.{apart}
 use Rattle.dbpl_grammar.proofs.TokenLaw.{expect_reads}
 
@@ -78,34 +77,6 @@ pub exact_after : {A : Type 0} {w : A → List Mark} {n : A → ℕ} {limit : �
 exact_after lexeme exact = record { reads = after_exact lexeme exact }
 
 -- ---- one behind the other
-
--- what stands in front of the same rest
-pub same_front : (front other rest : List Token) → front ++ rest ≡ other ++ rest → front ≡ other
-same_front [] [] rest e = refl
-same_front [] (token ∷ other) rest e =
-    let lengths : length rest ≡ length ((token ∷ other) ++ rest) = ap (λ (t : List Token). length t) e in
-    let parts = length-append (token ∷ other) rest in
-    absurd (omega arith)
-same_front (token ∷ front) [] rest e =
-    let lengths : length ((token ∷ front) ++ rest) ≡ length rest = ap (λ (t : List Token). length t) e in
-    let parts = length-append (token ∷ front) rest in
-    absurd (omega arith)
-same_front (token ∷ front) (first ∷ other) rest e =
-    let heads : token ≡ first = ap (λ (t : List Token). head_or token t) e in
-    let tails = same_front front other rest (ap (λ (t : List Token). tail_of t) e) in
-    ap₂ (λ (a : Token) (b : List Token). a ∷ b) heads tails
-  where
-    head_or : Token → List Token → Token
-    head_or token [] = token
-    head_or token (first ∷ others) = first
-
-    tail_of : List Token → List Token
-    tail_of [] = []
-    tail_of (first ∷ others) = others
-
-pub same_place : (front behind other : List Token) (next : Token) → SamePlace (front ++ next ∷ behind) (front ++ next ∷ other)
-same_place [] behind other next = refl
-same_place (token ∷ front) behind other next = refl
 
 module _ {A B : Type 0} {w : A → List Mark} {n : A → ℕ} {limit : ℕ} {first more : List Lexeme} {empty : Bool} {Is : A → Type 0} {read : Parser A} {w' : B → List Mark} {n' : B → ℕ} {second wider : List Lexeme} {none : Bool} {Is' : A → B → Type 0} {next_read : A → Parser B} (law : Law w n limit first more empty Is read) (later : (found : A) → Is found → Law w' n' limit second wider none (Is' found) (next_read found)) (follows : apart second more ≡ true) (exact : Exact w n limit Is read) (exact' : (found : A) → Is found → Exact w' n' limit (Is' found) (next_read found)) (bare : (y : B) (rest : List Token) → n' y ≤ limit → Meets rest (w' y) rest → w' y ≡ []) (free : (x x' : A) (y : B) → w' y ≡ [] → Is' x y → Is' x' y) where
   -- the first part, where these tokens lead from it to the next

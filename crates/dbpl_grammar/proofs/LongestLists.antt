@@ -9,10 +9,9 @@ use Rattle.dbpl_grammar.proofs.ChoiceLaw.{begins_with}
 use Rattle.dbpl_grammar.proofs.JoinLaw.{ends_before}
 use Rattle.dbpl_grammar.proofs.Law.{BeginsBy, Law, by_nothing, by_token}
 use Rattle.dbpl_grammar.proofs.ListLaw.{takes_one}
-use Rattle.dbpl_grammar.proofs.Longest.{Exact, Longest, Starts, none_ends, same_front, same_place}
-use Rattle.dbpl_grammar.proofs.MeetsLaw.{meets_join, meets_split}
+use Rattle.dbpl_grammar.proofs.Longest.{Exact, Longest, Starts, none_ends}
+use Rattle.dbpl_grammar.proofs.MeetsLaw.{meets_front, meets_join, meets_split, meets_swap, no_front, same_front, same_place}
 use Rattle.dbpl_grammar.proofs.Numbers.{max_left, max_right}
-use Rattle.dbpl_grammar.proofs.OneTree.{meets_front, meets_swap, no_front}
 use Rattle.dbpl_grammar.proofs.Sets.{apart}
 
 and_true : (b : Bool) → b ≡ true → (b && true) ≡ true

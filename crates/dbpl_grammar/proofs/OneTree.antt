@@ -8,45 +8,8 @@ use Rattle.dbpl_grammar.specs.Laws.{OneTree}
 use Rattle.dbpl_grammar.specs.Reading.{Parser, among}
 use Rattle.dbpl_grammar.proofs.Every.{Every}
 use Rattle.dbpl_grammar.proofs.Law.{Ends}
-use Rattle.dbpl_grammar.proofs.MeetsLaw.{meets_shorter}
+use Rattle.dbpl_grammar.proofs.MeetsLaw.{meets_front, meets_shorter, meets_swap}
 use Rattle.dbpl_grammar.proofs.TokenLaw.{ok_is}
-
--- the tokens in front of the rest
-pub meets_front : (marks : List Mark) (tokens rest : List Token) → Meets tokens marks rest → (front : List Token) × (tokens ≡ front ++ rest)
-meets_front [] tokens rest h = ([], h)
-meets_front (mark ∷ marks) [] rest h = absurd h
-meets_front (Of lexeme ∷ marks) (token ∷ tokens) rest h =
-    let more = meets_front marks tokens rest h.1 in
-    (token ∷ more.0, ap (λ (t : List Token). token ∷ t) more.1)
-meets_front (Before place ∷ marks) (token ∷ tokens) rest h = meets_front marks (token ∷ tokens) rest h.1
-
--- the second begins at the same place, if the first begins at all
-abbrev pub SamePlace : List Token → List Token → Type 0
-SamePlace [] other = Unit {0}
-SamePlace (token ∷ rest) [] = ⊥
-SamePlace (token ∷ rest) (first ∷ other) = first.place ≡ token.place
-
-pub no_front : (front rest : List Token) → front ++ rest ≡ rest → front ≡ []
-no_front [] rest e = refl
-no_front (token ∷ front) rest e =
-    let same : length ((token ∷ front) ++ rest) ≡ length rest = ap (λ (t : List Token). length t) e in
-    let parts = length-append (token ∷ front) rest in
-    absurd (omega arith)
-
--- a spelling stays one where something else stands behind
-pub meets_swap : (marks : List Mark) (front rest other : List Token) → SamePlace rest other → Meets (front ++ rest) marks rest → Meets (front ++ other) marks other
-meets_swap [] front rest other same h = rw (no_front front rest h) refl
-meets_swap (Of lexeme ∷ marks) [] [] other same h = absurd h
-meets_swap (Of lexeme ∷ marks) [] (token ∷ rest) other same h =
-    let less = meets_shorter marks rest (token ∷ rest) h.1 in
-    absurd (omega arith)
-meets_swap (Of lexeme ∷ marks) (token ∷ front) rest other same h = (h.0, meets_swap marks front rest other same h.1)
-meets_swap (Before place ∷ marks) [] [] other same h = absurd h
-meets_swap (Before place ∷ marks) [] (token ∷ rest) [] same h = absurd same
-meets_swap (Before place ∷ marks) [] (token ∷ rest) (first ∷ other) same h =
-    (same ∙ h.0, meets_swap marks [] (token ∷ rest) (first ∷ other) same h.1)
-meets_swap (Before place ∷ marks) (token ∷ front) rest other same h =
-    (h.0, meets_swap marks (token ∷ front) rest other same h.1)
 
 module _ {A : Type 0} {w : A → List Mark} {n : A → ℕ} {first more : List Lexeme} {empty : Bool} {read : ℕ → Parser A} (law : (limit : ℕ) → Every w n limit first more empty (read limit)) (ends : among more Finish ≡ false) where
   one_before : (tokens rest : List Token) (one other : A) → Meets tokens (w one) rest → Meets tokens (w other) rest → Ends more rest → one ≡ other

@@ -23,9 +23,8 @@ use Rattle.dbpl_grammar.specs.Reading.{Parser, among, like, optional}
 use Rattle.dbpl_grammar.proofs.Every.{Every, shallow_option}
 use Rattle.dbpl_grammar.proofs.ExprLaw.{expr_more, factor_more, law_arguments, law_part, simple_more, term_more}
 use Rattle.dbpl_grammar.proofs.Longest.{Starts}
-use Rattle.dbpl_grammar.proofs.MeetsLaw.{meets_join}
+use Rattle.dbpl_grammar.proofs.MeetsLaw.{meets_join, meets_swap}
 use Rattle.dbpl_grammar.proofs.NameLaw.{law_ident}
-use Rattle.dbpl_grammar.proofs.OneTree.{meets_swap}
 use Rattle.dbpl_grammar.proofs.OperatorLaw.{law_adding, law_multiplying, law_relation, law_sign}
 use Rattle.dbpl_grammar.proofs.OperatorTables.{all_adding, all_multiplying, all_relation, all_sign}
 use Rattle.dbpl_grammar.proofs.Sets.{fixed_is}
