@@ -2,15 +2,17 @@
 -- none may stand any more.
 use Rattle.std.proofs.Common.{◌≡◌, ℕ, suc, ◌≤◌, Bool, true, false, ◌||◌, ◌⊎◌, inl, inr, List, [], ◌∷◌, ◌++◌, Option, Some, None, Ok, Err, refl, sym, ap, ap₂, ◌∙◌, subst, zero-le, arith, true≢false, if◌then◌else◌}
 use Rattle.dbpl_base.specs.declared.lexeme.Lexeme.{Lexeme}
+use Rattle.dbpl_base.specs.declared.place.Place.{Place}
 use Rattle.dbpl_base.specs.declared.token.Token.{Token}
 use Rattle.dbpl_tree.specs.Depths.{option_depth}
 use Rattle.dbpl_tree.specs.Marks.{Mark, Meets, option_marks}
 use Rattle.dbpl_grammar.specs.Reading.{Parser, Refused, ◌>>=◌, ◌<$>◌, ◌⊗◌, ◌⊗>◌, after, among, begins, closed, either, flag, like, many, many_from, nothing, optional, too_deep}
+use Rattle.dbpl_grammar.proofs.OpenLaw.{complete_made, complete_nothing, err, ok_isnt, opens_deep, opens_either, opens_never, opens_optional}
 use Rattle.dbpl_grammar.proofs.JoinLaw.{ends_before, ends_less, may_follow}
-use Rattle.dbpl_grammar.proofs.Law.{BeginsBy, Ends, Law, Wrote, by_nothing, by_token}
+use Rattle.dbpl_grammar.proofs.Law.{BeginsBy, Completed, Ends, Law, Wrote, by_nothing, by_token}
 use Rattle.dbpl_grammar.proofs.Sets.{among_append, within, within_so}
 use Rattle.dbpl_grammar.proofs.SteadyLaw.{steady_either, steady_map, steady_pure, steady_refused}
-use Rattle.dbpl_grammar.proofs.TokenLaw.{both_ok, err, err_isnt, ok_is}
+use Rattle.dbpl_grammar.proofs.TokenLaw.{both_ok, err_isnt, ok_is}
 
 -- ---- the same law with more lexemes that may begin or go on
 
@@ -25,12 +27,14 @@ law_wider {first = first} {more = more} {empty = empty} first' more' h k law = r
   reads = λ found tokens rest is fits meets ends. law.reads found tokens rest is fits meets (ends_less more more' rest k ends);
   wrote = law.wrote;
   steady = law.steady;
+  some = law.some;
+  opens = law.opens;
 }
 
 -- ---- marks and depths said otherwise
 
 pub law_same : {A : Type 0} {w : A → List Mark} {n : A → ℕ} {limit : ℕ} {first more : List Lexeme} {empty : Bool} {Is : A → Type 0} {read : Parser A} (w' : A → List Mark) (n' : A → ℕ) → ((x : A) → w' x ≡ w x) → ((x : A) → n' x ≡ n x) → Law w n limit first more empty Is read → Law w' n' limit first more empty Is read
-law_same {limit = limit} w' n' marks depth law = record {
+law_same {A = A} {w = w} {limit = limit} {Is = Is} w' n' marks depth law = record {
   begins_by = λ found tokens rest is fits meets. law.begins_by found tokens rest is (subst (λ (k : ℕ). k ≤ limit) (depth found) fits) (subst (λ (ms : List Mark). Meets tokens ms rest) (marks found) meets);
   reads = λ found tokens rest is fits meets ends. law.reads found tokens rest is (subst (λ (k : ℕ). k ≤ limit) (depth found) fits) (subst (λ (ms : List Mark). Meets tokens ms rest) (marks found) meets) ends;
   wrote = λ found tokens rest e. (let one = law.wrote found tokens rest e in record {
@@ -39,6 +43,8 @@ law_same {limit = limit} w' n' marks depth law = record {
     meets = subst (λ (ms : List Mark). Meets tokens ms rest) (sym (marks found)) one.meets;
   });
   steady = law.steady;
+  some = λ place. complete_made w Is w' Is (λ (x : A). x) (λ x is. marks x) (λ x is. is) place [] (law.some place);
+  opens = λ tokens front refused place e split at. complete_made w Is w' Is (λ (x : A). x) (λ x is. marks x) (λ x is. is) place front (law.opens tokens front refused place e split at);
 }
 
 -- ---- one or the other
@@ -89,15 +95,19 @@ module _ {A : Type 0} {w : A → List Mark} {n : A → ℕ} {limit : ℕ} {first
     reads = either_reads;
     wrote = either_wrote;
     steady = steady_either first read other law.steady law'.steady;
+    some = λ place. complete_made w Is w (λ (x : A). Is x ⊎ Is' x) (λ (x : A). x) (λ x is. refl) (λ x is. inl is) place [] (law.some place);
+    opens = opens_either w Is Is' first read other law.opens law'.opens;
   }
 
 -- the trees that satisfy the one or the other are all that the law asks for
 pub law_all : {A : Type 0} {w : A → List Mark} {n : A → ℕ} {limit : ℕ} {first more : List Lexeme} {empty : Bool} {Is : A → Type 0} {read : Parser A} (Is' : A → Type 0) → ((x : A) → Is' x → Is x) → ((x : A) → Is x → Is' x) → Law w n limit first more empty Is read → Law w n limit first more empty Is' read
-law_all Is' to back law = record {
+law_all {A = A} {w = w} {Is = Is} Is' to back law = record {
   begins_by = λ found tokens rest is fits meets. law.begins_by found tokens rest (to found is) fits meets;
   reads = λ found tokens rest is fits meets ends. law.reads found tokens rest (to found is) fits meets ends;
   wrote = λ found tokens rest e. (let one = law.wrote found tokens rest e in record { is = back found one.is; fits = one.fits; meets = one.meets });
   steady = law.steady;
+  some = λ place. complete_made w Is w Is' (λ (x : A). x) (λ x is. refl) back place [] (law.some place);
+  opens = λ tokens front refused place e split at. complete_made w Is w Is' (λ (x : A). x) (λ x is. refl) back place front (law.opens tokens front refused place e split at);
 }
 
 -- ---- a phrase or nothing
@@ -149,6 +159,8 @@ module _ {A : Type 0} {w : A → List Mark} {n : A → ℕ} {limit : ℕ} {first
     reads = optional_reads;
     wrote = optional_wrote;
     steady = steady_either first ((λ (x : A). Some x) <$> read) nothing (steady_map (λ (x : A). Some x) read law.steady) (λ tokens. steady_pure None tokens);
+    some = λ place. complete_nothing (option_marks w) (IfThere Is) place None tt refl;
+    opens = opens_optional w Is (IfThere Is) first read (λ x is. is) law.opens;
   }
 
 pub law_nothing : {A : Type 0} (w : A → List Mark) (n : A → ℕ) (limit : ℕ) → Law (option_marks w) (option_depth n) limit [] [] true (λ (x : Option A). x ≡ None) nothing
@@ -158,16 +170,20 @@ law_nothing {A = A} w n limit = record {
   wrote = λ found tokens rest e. (let same = ok_is (None, tokens) (found, rest) e in
       subst (λ (s : Option A × List Token). Wrote (option_marks w) (option_depth n) limit (λ (x : Option A). x ≡ None) s.0 tokens s.1) {x = (None, tokens)} same (record { is = refl; fits = zero-le; meets = refl }));
   steady = λ tokens. steady_pure None tokens;
+  some = λ place. complete_nothing (option_marks w) (λ (x : Option A). x ≡ None) place None refl refl;
+  opens = opens_never (option_marks w) (λ (x : Option A). x ≡ None) nothing (λ tokens refused e. ok_isnt {A = Option A × List Token} (None, tokens) refused e);
 }
 
 -- ---- where none may stand any more
 
-pub law_deep : {A : Type 0} (w : A → List Mark) (n : A → ℕ) (limit : ℕ) (first more set : List Lexeme) (empty : Bool) (Is : A → Type 0) → ((x : A) → n x ≤ limit → ⊥) → Law w n limit first more empty Is (too_deep set)
-law_deep {A = A} w n limit first more set empty Is none = record {
+pub law_deep : {A : Type 0} (w : A → List Mark) (n : A → ℕ) (limit : ℕ) (first more set : List Lexeme) (empty : Bool) (Is : A → Type 0) → ((place : Place) → Completed w Is place []) → ((x : A) → n x ≤ limit → ⊥) → Law w n limit first more empty Is (too_deep set)
+law_deep {A = A} w n limit first more set empty Is ready none = record {
   begins_by = λ found tokens rest is fits meets. absurd (none found fits);
   reads = λ found tokens rest is fits meets ends. absurd (none found fits);
   wrote = λ found tokens rest e. by_begins (begins set tokens) found tokens rest e;
   steady = steady_either set (λ tokens. Err (record { reason = Rattle.dbpl_grammar.specs.Reading.Deep; rest = tokens })) (λ tokens. Err (record { reason = Rattle.dbpl_grammar.specs.Reading.Wrong; rest = tokens })) (λ tokens. steady_refused Rattle.dbpl_grammar.specs.Reading.Deep tokens) (λ tokens. steady_refused Rattle.dbpl_grammar.specs.Reading.Wrong tokens);
+  some = ready;
+  opens = opens_deep w Is set ready;
 }
   where
     by_begins : (b : Bool) (found : A) (tokens rest : List Token) → (if b then err {A = A × List Token} (record { reason = Rattle.dbpl_grammar.specs.Reading.Deep; rest = tokens }) else Err (record { reason = Rattle.dbpl_grammar.specs.Reading.Wrong; rest = tokens })) ≡ Ok (found, rest) → Wrote w n limit Is found tokens rest
@@ -186,4 +202,6 @@ law_counted law = record {
     meets = one.meets;
   });
   steady = law.steady;
+  some = law.some;
+  opens = law.opens;
 }

@@ -25,6 +25,7 @@ use Rattle.dbpl_tree.specs.declared.range.Range.{Range, Range-F, out-Range}
 use Rattle.dbpl_grammar.specs.Expressions.{Behind, Braced, Called, Inner, at_depth, behind, braced, called, char_code, char_code_of, expr, expr_first, factor, factor_first, ident_first, is_qual, named, named_made, negated, not_first, number, number_of, parenthesized, qual_in, quantified, quantifier_first, text, text_of}
 use Rattle.dbpl_grammar.specs.Lexemes.{a_char_code, a_number, a_text}
 use Rattle.dbpl_grammar.specs.Reading.{◌<$>◌, either}
+use Rattle.dbpl_grammar.proofs.Ready.{ready_expr, ready_negated, ready_range}
 use Rattle.dbpl_grammar.proofs.ChoiceLaw.{law_all, law_counted, law_deep, law_either, law_same, law_wider}
 use Rattle.dbpl_grammar.proofs.Every.{Every, both, maybe, variant}
 use Rattle.dbpl_grammar.proofs.ExprLaw.{expr_more, factor_more, law_arguments, law_designator, law_expr_inside}
@@ -158,7 +159,7 @@ module _ {limit : ℕ} {inner : Inner} (laws : InnerLaw limit inner) where
   pub plain_number : Law factor_marks factor_depth limit (a_number ∷ []) [] false IsNumber number
   unfolding number
   plain_number =
-      variant factor_marks factor_depth (both (law_here limit) (law_leaf limit number_of lexemes.Number (a_number ∷ []) refl (λ x. refl) number_is (λ x. refl)) refl) (λ found. factors.Number found.0 found.1) (λ x. factor_as (factors.Number x.0 x.1) _ (factors.outs-Number x.0 x.1)) (λ x. factor_deep (factors.Number x.0 x.1) _ (factors.outs-Number x.0 x.1))
+      variant factor_marks factor_depth (both (law_here limit) (law_leaf limit number_of lexemes.Number (a_number ∷ []) 0 refl (λ x. refl) number_is (λ x. refl)) refl) (λ found. factors.Number found.0 found.1) (λ x. factor_as (factors.Number x.0 x.1) _ (factors.outs-Number x.0 x.1)) (λ x. factor_deep (factors.Number x.0 x.1) _ (factors.outs-Number x.0 x.1))
 
   pub law_number : Law factor_marks factor_depth limit (a_number ∷ []) factor_more false IsNumber number
   law_number = law_wider (a_number ∷ []) factor_more refl refl plain_number
@@ -166,7 +167,7 @@ module _ {limit : ℕ} {inner : Inner} (laws : InnerLaw limit inner) where
   pub plain_char_code : Law factor_marks factor_depth limit (a_char_code ∷ []) [] false IsCharCode char_code
   unfolding char_code
   plain_char_code =
-      variant factor_marks factor_depth (both (law_here limit) (law_leaf limit char_code_of lexemes.CharCode (a_char_code ∷ []) refl (λ x. refl) char_code_is (λ x. refl)) refl) (λ found. factors.CharCode found.0 found.1) (λ x. factor_as (factors.CharCode x.0 x.1) _ (factors.outs-CharCode x.0 x.1)) (λ x. factor_deep (factors.CharCode x.0 x.1) _ (factors.outs-CharCode x.0 x.1))
+      variant factor_marks factor_depth (both (law_here limit) (law_leaf limit char_code_of lexemes.CharCode (a_char_code ∷ []) 0 refl (λ x. refl) char_code_is (λ x. refl)) refl) (λ found. factors.CharCode found.0 found.1) (λ x. factor_as (factors.CharCode x.0 x.1) _ (factors.outs-CharCode x.0 x.1)) (λ x. factor_deep (factors.CharCode x.0 x.1) _ (factors.outs-CharCode x.0 x.1))
 
   pub law_char_code : Law factor_marks factor_depth limit (a_char_code ∷ []) factor_more false IsCharCode char_code
   law_char_code = law_wider (a_char_code ∷ []) factor_more refl refl plain_char_code
@@ -174,7 +175,7 @@ module _ {limit : ℕ} {inner : Inner} (laws : InnerLaw limit inner) where
   pub plain_text : Law factor_marks factor_depth limit (a_text ∷ []) [] false IsText text
   unfolding text
   plain_text =
-      variant factor_marks factor_depth (both (law_here limit) (law_leaf limit text_of lexemes.Text (a_text ∷ []) refl (λ x. refl) text_is (λ x. refl)) refl) (λ found. factors.Text found.0 found.1) (λ x. factor_as (factors.Text x.0 x.1) _ (factors.outs-Text x.0 x.1)) (λ x. factor_deep (factors.Text x.0 x.1) _ (factors.outs-Text x.0 x.1))
+      variant factor_marks factor_depth (both (law_here limit) (law_leaf limit text_of lexemes.Text (a_text ∷ []) [] refl (λ x. refl) text_is (λ x. refl)) refl) (λ found. factors.Text found.0 found.1) (λ x. factor_as (factors.Text x.0 x.1) _ (factors.outs-Text x.0 x.1)) (λ x. factor_deep (factors.Text x.0 x.1) _ (factors.outs-Text x.0 x.1))
 
   pub law_text : Law factor_marks factor_depth limit (a_text ∷ []) factor_more false IsText text
   law_text = law_wider (a_text ∷ []) factor_more refl refl plain_text
@@ -224,9 +225,9 @@ range_counts x h = by_level (out-Range x) (subst (λ (k : ℕ). k ≤ 0) (range_
 pub inner_law : (depth : ℕ) → InnerLaw depth (at_depth depth)
 unfolding at_depth
 inner_law zero = record {
-  expr = law_deep (expr_marks factor_marks) (expr_depth factor_depth) 0 expr_first expr_more expr_first false (λ (x : ExprOf Factor). Unit {0}) (λ x h. not-suc-le-zero h);
-  range = law_deep range_marks range_depth 0 ident_first range_more ident_first false (λ (x : Range). Unit {0}) range_counts;
-  negated = law_deep negated_marks negated_depth 0 not_first factor_more not_first false (λ (x : Place × (NotOperator × Factor)). Unit {0}) (λ x h. not-suc-le-zero h);
+  expr = law_deep (expr_marks factor_marks) (expr_depth factor_depth) 0 expr_first expr_more expr_first false (λ (x : ExprOf Factor). Unit {0}) ready_expr (λ x h. not-suc-le-zero h);
+  range = law_deep range_marks range_depth 0 ident_first range_more ident_first false (λ (x : Range). Unit {0}) ready_range range_counts;
+  negated = law_deep negated_marks negated_depth 0 not_first factor_more not_first false (λ (x : Place × (NotOperator × Factor)). Unit {0}) ready_negated (λ x h. not-suc-le-zero h);
 }
 inner_law (suc depth) = record {
   expr = law_expr (inner_law depth);

@@ -22,7 +22,8 @@ use Rattle.dbpl_tree.specs.Words.{colon, comma, full_stop, left_brace, left_brac
 use Rattle.dbpl_grammar.specs.Expressions.{Braced, Called, Inner, added, adding_first, adding_of, aggregate, all_of, arguments, at_depth, behind, braced, called, char_code, compared, designator, each, each_of, element, element_first, element_made, expr, expr_first, exprs, factor, ident, ident_first, is_qual, multiplied, multiplying_first, multiplying_of, named, named_made, negated, not_first, not_of, number, parenthesized, part, part_first, qual, quantified, quantifier_first, quantifier_of, range, range_made, relation_of, relations_first, sign_of, signs_first, simple, subscripts, term, text}
 use Rattle.dbpl_grammar.specs.Lexemes.{a_char_code, a_number, a_text}
 use Rattle.dbpl_grammar.specs.Reading.{Parser, Refused, ◌>>=◌, ◌<$>◌, ◌⊗◌, ◌⊗>◌, after, begins, closed, either, expect, here, leaf, many, many_from, nothing, optional, too_deep}
-use Rattle.dbpl_grammar.proofs.TokenLaw.{both_ok, err, err_isnt}
+use Rattle.dbpl_grammar.proofs.OpenLaw.{err}
+use Rattle.dbpl_grammar.proofs.TokenLaw.{both_ok, err_isnt}
 
 -- the second reads all that the first reads
 abbrev pub Grows : {A : Type 0} → Parser A → Parser A → Type 0

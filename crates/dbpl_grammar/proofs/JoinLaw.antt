@@ -5,6 +5,7 @@ use Rattle.dbpl_base.specs.declared.lexeme.Lexeme.{Lexeme}
 use Rattle.dbpl_base.specs.declared.token.Token.{Token}
 use Rattle.dbpl_tree.specs.Marks.{Mark, Of, Meets}
 use Rattle.dbpl_grammar.specs.Reading.{Parser, ◌>>=◌, ◌<$>◌, ◌⊗◌, ◌⊗>◌, among, begins, closed, expect}
+use Rattle.dbpl_grammar.proofs.OpenLaw.{complete_made, complete_then, opens_closed, opens_made, opens_then, some_closed}
 use Rattle.dbpl_grammar.proofs.Law.{BeginsBy, Ends, Law, Wrote, by_nothing, by_token}
 use Rattle.dbpl_grammar.proofs.MeetsLaw.{meets_join, meets_shorter, meets_split}
 use Rattle.dbpl_grammar.proofs.Numbers.{max_both, max_left, max_right}
@@ -100,6 +101,8 @@ module _ {A B : Type 0} {w : A → List Mark} {n : A → ℕ} {limit : ℕ} {fir
     reads = then_reads;
     wrote = then_wrote;
     steady = steady_then read next law.steady (λ found before rest e. (later found (law.wrote found before rest e).is).steady rest);
+    some = λ place. complete_then w Is w' Is' place [] (law.some place) ((later (law.some place).tree (law.some place).is).some place);
+    opens = opens_then w Is w' Is' read next law.opens (λ x tokens rest e. ((law.wrote x tokens rest e).is, (law.wrote x tokens rest e).meets)) (λ x is. record { some = (later x is).some; opens = (later x is).opens; steady = (later x is).steady });
   }
 
 pub law_seq : {A B : Type 0} {w : A → List Mark} {n : A → ℕ} {limit : ℕ} {first more : List Lexeme} {empty : Bool} {Is : A → Type 0} {read : Parser A} {w' : B → List Mark} {n' : B → ℕ} {second wider : List Lexeme} {none : Bool} {Is' : B → Type 0} {next : Parser B} → Law w n limit first more empty Is read → Law w' n' limit second wider none Is' next → may_follow more second none wider ≡ true → Law (λ (x : A × B). w x.0 ++ w' x.1) (λ (x : A × B). max (n x.0) (n' x.1)) limit (first_of empty first second) wider (empty && none) (λ (x : A × B). Is x.0 × Is' x.1) (read ⊗ next)
@@ -152,6 +155,8 @@ module _ {A : Type 0} {w : A → List Mark} {n : A → ℕ} {limit : ℕ} {first
     reads = λ found tokens rest is fits meets stops. closed_reads found tokens rest is fits meets;
     wrote = closed_wrote;
     steady = steady_closed lexeme read (word_no_end lexeme fixed) law.steady;
+    some = λ place. some_closed w Is lexeme place (law.some place);
+    opens = opens_closed w Is lexeme read law.opens (λ x tokens rest e. ((law.wrote x tokens rest e).is, (law.wrote x tokens rest e).meets));
   }
 
 -- ---- a tree made of what was read
@@ -185,4 +190,6 @@ module _ {A B : Type 0} {w : A → List Mark} {n : A → ℕ} {limit : ℕ} {fir
     reads = made_reads;
     wrote = made_wrote;
     steady = steady_map make read law.steady;
+    some = λ place. complete_made w Is w' Is' make marks to place [] (law.some place);
+    opens = opens_made w Is w' Is' make read marks to law.opens;
   }

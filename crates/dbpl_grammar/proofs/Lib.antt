@@ -15,9 +15,11 @@ pub mod MeetsLaw
 pub mod NameLaw
 pub mod Numbers
 pub mod OneTree
+pub mod OpenLaw
 pub mod OperatorLaw
 pub mod OperatorTables
 pub mod RangeLaw
+pub mod Ready
 pub mod Sets
 pub mod Sharp
 pub mod StatementLaw

@@ -1,10 +1,11 @@
 -- The law of phrases that stand again and again, and of a word that may stand or not.
-use Rattle.std.proofs.Common.{◌≡◌, ℕ, zero, suc, ◌≤◌, ◌<◌, Bool, true, false, ◌||◌, List, [], ◌∷◌, ◌++◌, length, flat_map, Ok, refl, sym, ap, ap₂, ◌∙◌, subst, zero-le, le_refl, le_trans, not-suc-le-zero, append_assoc, append-nil, arith, true≢false, if◌then◌else◌}
+use Rattle.std.proofs.Common.{◌≡◌, ℕ, zero, suc, ◌≤◌, ◌<◌, Bool, true, false, ◌||◌, List, [], ◌∷◌, ◌++◌, length, flat_map, Ok, refl, sym, ap, ap₂, ◌∙◌, subst, zero-le, le_refl, le_trans, not-suc-le-zero, append_assoc, append-nil, arith, true≢false, if◌then◌else◌, Err}
 use Rattle.dbpl_base.specs.declared.lexeme.Lexeme.{Lexeme}
 use Rattle.dbpl_base.specs.declared.token.Token.{Token}
 use Rattle.dbpl_tree.specs.Depths.{greatest}
 use Rattle.dbpl_tree.specs.Marks.{Mark, Meets, where_marks}
-use Rattle.dbpl_grammar.specs.Reading.{Parser, Refused, ◌>>=◌, after, among, begins, either, flag, like, many, many_from}
+use Rattle.dbpl_grammar.specs.Reading.{Parser, Refused, wrong, ◌>>=◌, after, among, begins, either, flag, like, many, many_from}
+use Rattle.dbpl_grammar.proofs.OpenLaw.{complete_nothing, err, ok, ok_isnt, opens_many, opens_never}
 use Rattle.dbpl_grammar.proofs.ChoiceLaw.{begins_with}
 use Rattle.dbpl_grammar.proofs.JoinLaw.{ends_before, may_follow}
 use Rattle.dbpl_grammar.proofs.Law.{BeginsBy, Ends, Law, Wrote, by_nothing, by_token}
@@ -13,7 +14,7 @@ use Rattle.dbpl_grammar.proofs.MeetsLaw.{meets_join, meets_shorter, meets_split}
 use Rattle.dbpl_grammar.proofs.Numbers.{max_both, max_left, max_right}
 use Rattle.dbpl_grammar.proofs.Sets.{among_append, is_fixed, is_word, like_self, word_fixed, word_no_end}
 use Rattle.dbpl_grammar.proofs.SteadyLaw.{steady_after, steady_either, steady_pure}
-use Rattle.dbpl_grammar.proofs.TokenLaw.{both_ok, err_isnt, expect_ok, ok, ok_is}
+use Rattle.dbpl_grammar.proofs.TokenLaw.{both_ok, err_isnt, expect_ok, ok_is}
 
 -- each of them is one of those that the law asks for
 abbrev pub EachIs : {A : Type 0} → (A → Type 0) → List A → Type 0
@@ -99,6 +100,8 @@ module _ {A : Type 0} {w : A → List Mark} {n : A → ℕ} {limit : ℕ} {first
     reads = λ found tokens rest is fits meets ends. many_reads_from found (suc (length tokens)) [] tokens rest is fits meets ends (le_refl (suc (length tokens)));
     wrote = many_wrote;
     steady = steady_many first read law.steady goes;
+    some = λ place. complete_nothing (flat_map w) (EachIs Is) place [] tt refl;
+    opens = opens_many w Is (EachIs Is) tt (λ x xs is all. (is, all)) first read law.steady goes (λ x tokens rest e. ((law.wrote x tokens rest e).is, (law.wrote x tokens rest e).meets)) law.opens;
   }
 
 -- ---- a word that may stand or not
@@ -132,10 +135,21 @@ flag_wrote limit lexeme there tokens rest fixed e = by_begins (begins (lexeme �
         let same = ok_is (false, tokens) (there, rest) e in
         subst (λ (s : Bool × List Token). Wrote (flag_marks lexeme) (λ (b : Bool). 0) limit (λ (b : Bool). Unit {0}) s.0 tokens s.1) {x = (false, tokens)} same (record { is = tt; fits = zero-le; meets = refl })
 
+-- a word that may stand is never refused
+flag_reads_on : (lexeme : Lexeme) (tokens : List Token) (refused : Refused) → flag lexeme tokens ≡ Err refused → ⊥
+flag_reads_on lexeme [] refused e = ok_isnt {A = Bool × List Token} (false, []) refused e
+flag_reads_on lexeme (token ∷ tokens) refused e = by_like (like lexeme token.lexeme) e
+  where
+    by_like : (b : Bool) → (if b || false then ((if b then Ok tokens else err {A = List Token} (wrong (token ∷ tokens))) >>= λ rest. ok {A = Bool × List Token} (true, rest)) else Ok (false, token ∷ tokens)) ≡ Err refused → ⊥
+    by_like true e = ok_isnt {A = Bool × List Token} (true, tokens) refused e
+    by_like false e = ok_isnt {A = Bool × List Token} (false, token ∷ tokens) refused e
+
 pub law_flag : (limit : ℕ) (lexeme : Lexeme) → is_word lexeme ≡ true → Law (flag_marks lexeme) (λ (b : Bool). 0) limit (lexeme ∷ []) (lexeme ∷ []) true (λ (b : Bool). Unit {0}) (flag lexeme)
 law_flag limit lexeme fixed = record {
   begins_by = λ there tokens rest is fits meets. flag_begins lexeme there tokens rest meets;
   reads = λ there tokens rest is fits meets ends. flag_reads lexeme there tokens rest meets ends;
   wrote = λ there tokens rest e. flag_wrote limit lexeme there tokens rest (word_fixed lexeme fixed) e;
   steady = steady_either (lexeme ∷ []) (after lexeme (λ (rest : List Token). ok (true, rest))) (λ (rest : List Token). ok (false, rest)) (steady_after lexeme (λ (rest : List Token). ok (true, rest)) (word_no_end lexeme fixed) (λ rest. steady_pure true rest)) (λ rest. steady_pure false rest);
+  some = λ place. complete_nothing (flag_marks lexeme) (λ (b : Bool). Unit {0}) place false tt refl;
+  opens = opens_never (flag_marks lexeme) (λ (b : Bool). Unit {0}) (flag lexeme) (flag_reads_on lexeme);
 }

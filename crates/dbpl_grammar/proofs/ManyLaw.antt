@@ -11,13 +11,13 @@ abbrev pub Goes : {A : Type 0} → Parser A → Type 0
 Goes {A = A} read = (found : A) (tokens rest : List Token) → read tokens ≡ Ok (found, rest) → length rest < length tokens
 
 -- the answer rests on the tokens up to the first one left, whatever the turns, if they are enough
-record SteadyMany {A : Type 0} (set : List Lexeme) (read : Parser A) (found : List A) (tokens : List Token) (answer : Result (List A × List Token) Refused) : Type 0 where
-  front : List Token
-  split : tokens ≡ front ++ left answer
-  inside : no_end front ≡ true
-  holds : (token : Token) (behind other : List Token) → left answer ≡ token ∷ behind → (turns : ℕ) → length (front ++ token ∷ other) < turns → many_from set read turns found (front ++ token ∷ other) ≡ leaving (token ∷ other) answer
+pub record SteadyMany {A : Type 0} (set : List Lexeme) (read : Parser A) (found : List A) (tokens : List Token) (answer : Result (List A × List Token) Refused) : Type 0 where
+  pub front : List Token
+  pub split : tokens ≡ front ++ left answer
+  pub inside : no_end front ≡ true
+  pub holds : (token : Token) (behind other : List Token) → left answer ≡ token ∷ behind → (turns : ℕ) → length (front ++ token ∷ other) < turns → many_from set read turns found (front ++ token ∷ other) ≡ leaving (token ∷ other) answer
 
-steady_many_from : {A : Type 0} (set : List Lexeme) (read : Parser A) → ((tokens : List Token) → Steady read tokens (read tokens)) → Goes read → (turns : ℕ) (found : List A) (tokens : List Token) → length tokens < turns → SteadyMany set read found tokens (many_from set read turns found tokens)
+pub steady_many_from : {A : Type 0} (set : List Lexeme) (read : Parser A) → ((tokens : List Token) → Steady read tokens (read tokens)) → Goes read → (turns : ℕ) (found : List A) (tokens : List Token) → length tokens < turns → SteadyMany set read found tokens (many_from set read turns found tokens)
 steady_many_from set read s goes zero found tokens enough = absurd (not-suc-le-zero enough)
 steady_many_from {A = A} set read s goes (suc turns) found tokens enough = by_begins (λ found tokens enough. steady_many_from set read s goes turns found tokens enough) (begins set tokens) refl
   where

@@ -66,7 +66,7 @@ text_is lexemes.Finish x e = absurd (let no : None ≡ Some x = e in cc)
 pub law_ident : (limit : ℕ) → Every ident_marks (λ (x : Ident). 0) limit ident_first [] false ident
 unfolding ident
 law_ident limit =
-    made ident_marks (λ (x : Ident). 0) (both (law_here limit) (law_leaf limit name_of lexemes.Ident ident_first refl (λ x. refl) name_is (λ x. refl)) refl) (λ found. record { place = found.0; name = found.1 }) (λ x. (x.place, x.name)) (λ x. refl) (λ x. refl) (λ x. refl)
+    made ident_marks (λ (x : Ident). 0) (both (law_here limit) (law_leaf limit name_of lexemes.Ident ident_first [] refl (λ x. refl) name_is (λ x. refl)) refl) (λ found. record { place = found.0; name = found.1 }) (λ x. (x.place, x.name)) (λ x. refl) (λ x. refl) (λ x. refl)
 
 pub law_idents : (limit : ℕ) → Every idents_marks (λ (x : Idents). 0) limit ident_first (comma ∷ []) false idents
 unfolding idents

@@ -29,7 +29,7 @@ use Rattle.std.proofs.Common.{◌≡◌, ℕ, true, false, [], ◌∷◌, Some, 
 
 pub law_relation : (limit : ℕ) → Law (λ (x : Relation). Of (relation_lexeme x) ∷ []) (λ (x : Relation). 0) limit relations_first [] false (λ (x : Relation). Unit {0}) (leaf relation_of)
 unfolding relation_of
-law_relation limit = law_leaf limit relation_of relation_lexeme relations_first refl means says begins
+law_relation limit = law_leaf limit relation_of relation_lexeme relations_first relations.Equal refl means says begins
   where
     means : (x : Relation) → relation_of (relation_lexeme x) ≡ Some x
     means relations.Equal = refl
@@ -63,7 +63,7 @@ law_relation limit = law_leaf limit relation_of relation_lexeme relations_first 
 
 pub law_sign : (limit : ℕ) → Law (λ (x : SignOperator). Of (sign_lexeme x) ∷ []) (λ (x : SignOperator). 0) limit signs_first [] false (λ (x : SignOperator). Unit {0}) (leaf sign_of)
 unfolding sign_of
-law_sign limit = law_leaf limit sign_of sign_lexeme signs_first refl means says begins
+law_sign limit = law_leaf limit sign_of sign_lexeme signs_first signs.Plus refl means says begins
   where
     means : (x : SignOperator) → sign_of (sign_lexeme x) ≡ Some x
     means signs.Plus = refl
@@ -82,7 +82,7 @@ law_sign limit = law_leaf limit sign_of sign_lexeme signs_first refl means says 
 
 pub law_adding : (limit : ℕ) → Law (λ (x : AddingOperator). Of (adding_lexeme x) ∷ []) (λ (x : AddingOperator). 0) limit adding_first [] false (λ (x : AddingOperator). Unit {0}) (leaf adding_of)
 unfolding adding_of
-law_adding limit = law_leaf limit adding_of adding_lexeme adding_first refl means says begins
+law_adding limit = law_leaf limit adding_of adding_lexeme adding_first adding.Plus refl means says begins
   where
     means : (x : AddingOperator) → adding_of (adding_lexeme x) ≡ Some x
     means adding.Plus = refl
@@ -104,7 +104,7 @@ law_adding limit = law_leaf limit adding_of adding_lexeme adding_first refl mean
 
 pub law_multiplying : (limit : ℕ) → Law (λ (x : MultiplyingOperator). Of (multiplying_lexeme x) ∷ []) (λ (x : MultiplyingOperator). 0) limit multiplying_first [] false (λ (x : MultiplyingOperator). Unit {0}) (leaf multiplying_of)
 unfolding multiplying_of
-law_multiplying limit = law_leaf limit multiplying_of multiplying_lexeme multiplying_first refl means says begins
+law_multiplying limit = law_leaf limit multiplying_of multiplying_lexeme multiplying_first multiplying.Times refl means says begins
   where
     means : (x : MultiplyingOperator) → multiplying_of (multiplying_lexeme x) ≡ Some x
     means multiplying.Times = refl
@@ -132,7 +132,7 @@ law_multiplying limit = law_leaf limit multiplying_of multiplying_lexeme multipl
 
 pub law_not : (limit : ℕ) → Law (λ (x : NotOperator). Of (not_lexeme x) ∷ []) (λ (x : NotOperator). 0) limit not_first [] false (λ (x : NotOperator). Unit {0}) (leaf not_of)
 unfolding not_of
-law_not limit = law_leaf limit not_of not_lexeme not_first refl means says begins
+law_not limit = law_leaf limit not_of not_lexeme not_first negation.Not refl means says begins
   where
     means : (x : NotOperator) → not_of (not_lexeme x) ≡ Some x
     means negation.Not = refl
@@ -151,7 +151,7 @@ law_not limit = law_leaf limit not_of not_lexeme not_first refl means says begin
 
 pub law_quantifier : (limit : ℕ) → Law (λ (x : Quantifier). Of (quantifier_lexeme x) ∷ []) (λ (x : Quantifier). 0) limit quantifier_first [] false (λ (x : Quantifier). Unit {0}) (leaf quantifier_of)
 unfolding quantifier_of
-law_quantifier limit = law_leaf limit quantifier_of quantifier_lexeme quantifier_first refl means says begins
+law_quantifier limit = law_leaf limit quantifier_of quantifier_lexeme quantifier_first quantifiers.Exists refl means says begins
   where
     means : (x : Quantifier) → quantifier_of (quantifier_lexeme x) ≡ Some x
     means quantifiers.Exists = refl
@@ -170,7 +170,7 @@ law_quantifier limit = law_leaf limit quantifier_of quantifier_lexeme quantifier
 
 pub law_change : (limit : ℕ) → Law (λ (x : ChangeOperator). Of (change_lexeme x) ∷ []) (λ (x : ChangeOperator). 0) limit change_first [] false (λ (x : ChangeOperator). Unit {0}) (leaf change_of)
 unfolding change_of
-law_change limit = law_leaf limit change_of change_lexeme change_first refl means says begins
+law_change limit = law_leaf limit change_of change_lexeme change_first changes.Becomes refl means says begins
   where
     means : (x : ChangeOperator) → change_of (change_lexeme x) ≡ Some x
     means changes.Becomes = refl
@@ -195,7 +195,7 @@ law_change limit = law_leaf limit change_of change_lexeme change_first refl mean
 
 pub law_routine : (limit : ℕ) → Law (λ (x : RoutineWord). Of (routine_lexeme x) ∷ []) (λ (x : RoutineWord). 0) limit routine_first [] false (λ (x : RoutineWord). Unit {0}) (leaf routine_of)
 unfolding routine_of
-law_routine limit = law_leaf limit routine_of routine_lexeme routine_first refl means says begins
+law_routine limit = law_leaf limit routine_of routine_lexeme routine_first routine_words.Procedure refl means says begins
   where
     means : (x : RoutineWord) → routine_of (routine_lexeme x) ≡ Some x
     means routine_words.Procedure = refl

@@ -31,6 +31,7 @@ use Rattle.dbpl_grammar.specs.Expressions.{Inner, arguments, expr_first, ident_f
 use Rattle.dbpl_grammar.specs.Lexemes.{an_ident}
 use Rattle.dbpl_grammar.specs.Reading.{Parser, ◌<$>◌, ◌⊗◌, after, here, leaf, many, optional}
 use Rattle.dbpl_grammar.specs.Statements.{Acts, Calls, Changes, Counts, Loops, Ranges, action, action_made, acts, case_statement, case_with, change_first, change_of, counts, elsif, exit_statement, for_made, for_statement, if_statement, label, loop_statement, otherwise, ranges, repeat_statement, return_statement, statement_with, statement_words, statements_after, statements_at, statements_with, while_statement}
+use Rattle.dbpl_grammar.proofs.Ready.{ready_statements}
 use Rattle.dbpl_grammar.proofs.ChoiceLaw.{law_all, law_counted, law_deep, law_either, law_wider}
 use Rattle.dbpl_grammar.proofs.Every.{Every, all_those, both, made, maybe, variant}
 use Rattle.dbpl_grammar.proofs.ExprLaw.{expr_more, law_arguments, law_designator}
@@ -294,5 +295,5 @@ law_statements_with law =
 pub law_statements : (depth : ℕ) → EveryStatements depth (statements_at depth)
 unfolding statements_at
 law_statements zero =
-    law_deep (statements_marks statement_marks) (statements_depth statement_depth) 0 statements_first statements_more (an_ident ∷ statement_words ++ statements_after) true (λ (x : Body). Unit {0}) (λ x h. not-suc-le-zero h)
+    law_deep (statements_marks statement_marks) (statements_depth statement_depth) 0 statements_first statements_more (an_ident ∷ statement_words ++ statements_after) true (λ (x : Body). Unit {0}) ready_statements (λ x h. not-suc-le-zero h)
 law_statements (suc depth) = law_statements_with (law_statement (inner_law depth) (law_statements depth))

@@ -6,6 +6,7 @@ use Rattle.dbpl_base.specs.declared.place.Place.{Place}
 use Rattle.dbpl_base.specs.declared.token.Token.{Token}
 use Rattle.dbpl_tree.specs.Marks.{Mark, Of, Before, Meets}
 use Rattle.dbpl_grammar.specs.Reading.{Parser, Refused, ◌>>=◌, after, among, by_table, expect, found_or, here, leaf, like, wrong}
+use Rattle.dbpl_grammar.proofs.OpenLaw.{complete_after, err, ok, opens_after, opens_here, opens_leaf, some_here, some_leaf}
 use Rattle.dbpl_grammar.proofs.Law.{BeginsBy, Law, Wrote, by_nothing, by_token}
 use Rattle.dbpl_grammar.proofs.MeetsLaw.{meets_join, meets_shorter}
 use Rattle.dbpl_grammar.proofs.Sets.{fixed_is, is_fixed, is_word, like_self, word_fixed, word_no_end}
@@ -14,12 +15,6 @@ use Rattle.dbpl_grammar.proofs.SteadyLaw.{steady_after, steady_here, steady_leaf
 -- each tree
 abbrev pub Any : {A : Type 0} → A → Type 0
 Any found = Unit {0}
-
-abbrev pub ok : {A : Type 0} → A → Result A Refused
-ok found = Ok found
-
-abbrev pub err : {A : Type 0} → Refused → Result A Refused
-err refused = Err refused
 
 pub ok_is : {A : Type 0} (one other : A) → ok one ≡ ok other → one ≡ other
 ok_is {A = A} one other e = ap (λ (r : Result A Refused). or_one r) e
@@ -58,6 +53,8 @@ law_here limit = record {
   reads = λ found tokens rest is fits meets ends. here_reads found tokens rest meets;
   wrote = λ found tokens rest e. here_wrote limit found tokens rest e;
   steady = steady_here;
+  some = some_here;
+  opens = opens_here;
 }
 
 -- ---- a token that stands for a part of the tree
@@ -86,12 +83,14 @@ leaf_wrote {A = A} meaning lexeme_of limit h found (token ∷ tokens) rest e = b
           meets = (h token.lexeme x is ∙ ap (λ (s : A × List Token). lexeme_of s.0) same, ap (λ (s : A × List Token). s.1) same);
         }
 
-pub law_leaf : {A : Type 0} (limit : ℕ) (meaning : Lexeme → Option A) (lexeme_of : A → Lexeme) (first : List Lexeme) → meaning Finish ≡ None → ((x : A) → meaning (lexeme_of x) ≡ Some x) → ((l : Lexeme) (x : A) → meaning l ≡ Some x → l ≡ lexeme_of x) → ((x : A) → among first (lexeme_of x) ≡ true) → Law (λ (x : A). Of (lexeme_of x) ∷ []) (λ (x : A). 0) limit first [] false (λ (x : A). Any x) (leaf meaning)
-law_leaf limit meaning lexeme_of first not_end means says begun = record {
+pub law_leaf : {A : Type 0} (limit : ℕ) (meaning : Lexeme → Option A) (lexeme_of : A → Lexeme) (first : List Lexeme) (one : A) → meaning Finish ≡ None → ((x : A) → meaning (lexeme_of x) ≡ Some x) → ((l : Lexeme) (x : A) → meaning l ≡ Some x → l ≡ lexeme_of x) → ((x : A) → among first (lexeme_of x) ≡ true) → Law (λ (x : A). Of (lexeme_of x) ∷ []) (λ (x : A). 0) limit first [] false (λ (x : A). Any x) (leaf meaning)
+law_leaf limit meaning lexeme_of first one not_end means says begun = record {
   begins_by = λ found tokens rest is fits meets. leaf_begins lexeme_of first begun found tokens rest meets;
   reads = λ found tokens rest is fits meets ends. leaf_reads meaning lexeme_of means found tokens rest meets;
   wrote = λ found tokens rest e. leaf_wrote meaning lexeme_of limit says found tokens rest e;
   steady = steady_leaf meaning not_end;
+  some = some_leaf lexeme_of one;
+  opens = opens_leaf meaning lexeme_of one;
 }
 
 -- a table of words and signs says what it means
@@ -148,9 +147,11 @@ after_wrote {w = w} {read = read} lexeme fixed law found tokens rest e =
     }
 
 pub law_after : {A : Type 0} {w : A → List Mark} {n : A → ℕ} {limit : ℕ} {first more : List Lexeme} {empty : Bool} {Is : A → Type 0} {read : Parser A} (lexeme : Lexeme) → is_word lexeme ≡ true → Law w n limit first more empty Is read → Law (λ (x : A). Of lexeme ∷ w x) n limit (lexeme ∷ []) more false Is (after lexeme read)
-law_after {w = w} {read = read} lexeme fixed law = record {
+law_after {w = w} {Is = Is} {read = read} lexeme fixed law = record {
   begins_by = λ found tokens rest is fits meets. after_begins lexeme w found tokens rest meets;
   reads = λ found tokens rest is fits meets ends. after_reads lexeme w read found tokens rest meets (λ middle m. law.reads found middle rest is fits m ends);
   wrote = λ found tokens rest e. after_wrote lexeme (word_fixed lexeme fixed) law found tokens rest e;
   steady = steady_after lexeme read (word_no_end lexeme fixed) law.steady;
+  some = λ place. complete_after w Is lexeme place (law.some place);
+  opens = opens_after w Is lexeme read (λ other is. fixed_is lexeme other (word_fixed lexeme fixed) is) law.some law.opens;
 }

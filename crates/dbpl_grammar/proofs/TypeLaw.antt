@@ -19,6 +19,7 @@ use Rattle.dbpl_tree.specs.declared.type_tree.TypeTree.TheVariants as types
 use Rattle.dbpl_grammar.specs.Expressions.{Inner, ident_first, idents, qual}
 use Rattle.dbpl_grammar.specs.Reading.{Parser, ◌<$>◌, ◌⊗◌, after, here}
 use Rattle.dbpl_grammar.specs.Types.{array, enumeration, fields, record_type, relation_type, subrange, type_at, type_first, type_with}
+use Rattle.dbpl_grammar.proofs.Ready.{ready_type}
 use Rattle.dbpl_grammar.proofs.ChoiceLaw.{law_all, law_counted, law_deep, law_either, law_wider}
 use Rattle.dbpl_grammar.proofs.Every.{Every, all_those, both, variant}
 use Rattle.dbpl_grammar.proofs.FactorLaw.{inner_law}
@@ -145,5 +146,5 @@ type_counts x h = by_level (out-TypeTree x) (subst (λ (k : ℕ). k ≤ 0) (type
 pub law_type : (depth : ℕ) → Every type_marks type_depth depth type_first type_more false (type_at depth)
 unfolding type_at
 law_type zero =
-    law_deep type_marks type_depth 0 type_first type_more type_first false (λ (x : TypeTree). Unit {0}) type_counts
+    law_deep type_marks type_depth 0 type_first type_more type_first false (λ (x : TypeTree). Unit {0}) ready_type type_counts
 law_type (suc depth) = law_type_with (inner_law depth) (law_type depth)

@@ -10,11 +10,12 @@ use Rattle.dbpl_tree.specs.declared.unit.Unit.{Unit as Module}
 use Rattle.dbpl_grammar.specs.Laws.{HasEnd, IsText, NamesToken, NoneBegins, OneUnit, ReadsUnits, RefusesUnits, SpelledUnits}
 use Rattle.dbpl_grammar.specs.Reading.{Refused, ◌>>=◌, begins, closed, expect, like, wrong}
 use Rattle.dbpl_grammar.specs.Units.{at_end, depth_limit, unit, whole_unit}
+use Rattle.dbpl_grammar.proofs.OpenLaw.{err}
 use Rattle.dbpl_grammar.proofs.JoinLaw.{expect_meets}
 use Rattle.dbpl_grammar.proofs.Law.{Steady, no_end}
 use Rattle.dbpl_grammar.proofs.MeetsLaw.{meets_join, meets_split}
 use Rattle.dbpl_grammar.proofs.SteadyLaw.{no_head, same_head}
-use Rattle.dbpl_grammar.proofs.TokenLaw.{both_ok, err, err_isnt, expect_ok, ok_is}
+use Rattle.dbpl_grammar.proofs.TokenLaw.{both_ok, err_isnt, expect_ok, ok_is}
 use Rattle.dbpl_grammar.proofs.UnitLaw.{law_unit}
 
 abbrev with_rest : Module → List Token → Result (Module × List Token) Refused
