@@ -2,15 +2,17 @@
 use Rattle.std.proofs.Common.{◌≡◌, ℕ, ◌≤◌, max, Bool, false, List, [], ◌∷◌, ◌++◌, length, length-append, append_assoc, append-nil, Result, Ok, Err, refl, sym, ap, ◌∙◌, subst, arith}
 use Rattle.dbpl_base.specs.declared.lexeme.Lexeme.{Lexeme}
 use Rattle.dbpl_base.specs.declared.lexeme.Lexeme.TheVariants.{Finish}
+use Rattle.dbpl_base.specs.declared.place.Place.{Place}
 use Rattle.dbpl_base.specs.declared.token.Token.{Token}
 use Rattle.dbpl_tree.specs.Marks.{Mark, Meets}
-use Rattle.dbpl_grammar.specs.Laws.{NamesPhraseToken, NoneLonger, PhraseIsRead, ReadsPhrase, RefusesPhrase, Stands}
+use Rattle.dbpl_grammar.specs.Laws.{BegunPhrase, NamesPhraseToken, NoneLonger, PhraseIsRead, ReadsPhrase, RefusesPhrase, Stands}
 use Rattle.dbpl_grammar.specs.Reading.{Parser, Refused, among}
 use Rattle.dbpl_grammar.proofs.MeetsLaw.{SamePlace, meets_front, meets_swap, same_front}
 use Rattle.dbpl_grammar.proofs.Every.{Every}
 use Rattle.dbpl_grammar.proofs.Grows.{Grows}
-use Rattle.dbpl_grammar.proofs.Law.{Ends, Steady}
+use Rattle.dbpl_grammar.proofs.Law.{AtPlace, Ends, Steady}
 use Rattle.dbpl_grammar.proofs.Longest.{Exact}
+use Rattle.dbpl_grammar.proofs.OpenLaw.{token_at}
 use Rattle.dbpl_grammar.proofs.TokenLaw.{err_isnt, ok_is}
 use Rattle.dbpl_grammar.proofs.WholeLaw.{not_all}
 
@@ -47,6 +49,16 @@ unfolding ending
 ending_ends more [] e = refl
 ending_ends more (token ∷ rest) e = e
 
+-- the place of the first of these, if there is one
+pub first_place : List Token → Place
+first_place [] = record { unit = 0; line = 0; col = 0 }
+first_place (token ∷ rest) = token.place
+
+pub at_first : (rest : List Token) → AtPlace (first_place rest) rest
+unfolding first_place
+at_first [] = tt
+at_first (token ∷ rest) = refl
+
 module _ {A : Type 0} {w : A → List Mark} {n : A → ℕ} {first more : List Lexeme} {empty : Bool} {read : ℕ → Parser A} (law : (limit : ℕ) → Every w n limit first more empty (read limit)) where
   -- what is spelled beyond these tokens and the next one is read, where the end of the text stands behind
   beyond : (ends : among more Finish ≡ false) (limit : ℕ) (front other rest : List Token) (next : Token) (x : A) → n x ≤ limit → Meets (front ++ next ∷ other) (w x) rest → length rest ≤ length other → (behind : List Token) × (read limit (front ++ next ∷ behind) ≡ Ok (x, ending rest)) × (length (ending rest) ≤ length behind)
@@ -68,6 +80,24 @@ module _ {A : Type 0} {w : A → List Mark} {n : A → ℕ} {first more : List L
         none = λ token behind other rest x is meets le fits.
             (let further = beyond ends limit t.front other rest token x fits meets le in
             err_isnt _ _ (sym (t.holds token behind further.0 is) ∙ further.1));
+      }
+
+  pub begun_phrase : BegunPhrase w read
+  begun_phrase limit tokens refused e =
+      let s = (law limit).steady tokens in
+      let t : Steady (read limit) tokens (Err refused) = subst (λ (answer : Result (A × List Token) Refused). Steady (read limit) tokens answer) e s in
+      let place = first_place refused.rest in
+      let c = (law limit).opens tokens t.front refused place e t.split (at_first refused.rest) in
+      let finish = token_at place Finish in
+      let lengths = length-append c.tokens (finish ∷ []) in
+      record {
+        front = t.front;
+        split = t.split;
+        others = c.tokens ++ finish ∷ [];
+        left = finish ∷ [];
+        phrase = c.tree;
+        spelled = c.meets (finish ∷ []) refl;
+        within = omega arith;
       }
 
   pub names_phrase_token : NamesPhraseToken read

@@ -1,12 +1,12 @@
 -- A phrase is read where nothing longer begins with its tokens and the next one, whatever that is.
-use Rattle.std.proofs.Common.{◌≡◌, ℕ, suc, ◌≤◌, max, Bool, true, false, ◌&&◌, List, [], ◌∷◌, ◌++◌, length, append_assoc, append-nil, length-append, Ok, refl, sym, ap, ap₂, ◌∙◌, subst, arith}
+use Rattle.std.proofs.Common.{◌≡◌, ℕ, suc, ◌≤◌, max, Bool, true, false, ◌&&◌, List, [], ◌∷◌, ◌++◌, length, append_assoc, append-nil, length-append, Ok, refl, sym, ap, ◌∙◌, subst, arith}
 use Rattle.dbpl_base.specs.declared.lexeme.Lexeme.{Lexeme}
 use Rattle.dbpl_base.specs.declared.token.Token.{Token}
 use Rattle.dbpl_tree.specs.Marks.{Mark, Of, Meets}
 use Rattle.dbpl_grammar.specs.Reading.{Parser, ◌<$>◌, ◌⊗>◌, after, among}
 use Rattle.dbpl_grammar.proofs.JoinLaw.{ends_before}
 use Rattle.dbpl_grammar.proofs.Law.{BeginsBy, Ends, Law, by_nothing, by_token}
-use Rattle.dbpl_grammar.proofs.MeetsLaw.{SamePlace, meets_front, meets_join, meets_shorter, meets_split, meets_swap, same_front, same_place}
+use Rattle.dbpl_grammar.proofs.MeetsLaw.{meets_front, meets_join, meets_shorter, meets_split, meets_swap, same_front, same_place}
 use Rattle.dbpl_grammar.proofs.Numbers.{max_left, max_right}
 use Rattle.dbpl_grammar.proofs.Sets.{apart}
 use Rattle.dbpl_grammar.proofs.TokenLaw.{expect_reads}

@@ -1,14 +1,14 @@
 -- One list of tokens spells one tree: both are what is read, where a token that ends each phrase stands behind.
-use Rattle.std.proofs.Common.{◌≡◌, ℕ, max, Bool, false, List, [], ◌∷◌, ◌++◌, length, refl, sym, ap, ◌∙◌, subst, length-append, arith}
+use Rattle.std.proofs.Common.{◌≡◌, ℕ, max, Bool, false, List, [], ◌∷◌, ◌++◌, refl, sym, ap, ◌∙◌, subst, arith}
 use Rattle.dbpl_base.specs.declared.lexeme.Lexeme.{Lexeme}
 use Rattle.dbpl_base.specs.declared.lexeme.Lexeme.TheVariants.{Finish}
 use Rattle.dbpl_base.specs.declared.token.Token.{Token}
-use Rattle.dbpl_tree.specs.Marks.{Mark, Of, Before, Meets}
+use Rattle.dbpl_tree.specs.Marks.{Mark, Meets}
 use Rattle.dbpl_grammar.specs.Laws.{OneTree}
 use Rattle.dbpl_grammar.specs.Reading.{Parser, among}
 use Rattle.dbpl_grammar.proofs.Every.{Every}
 use Rattle.dbpl_grammar.proofs.Law.{Ends}
-use Rattle.dbpl_grammar.proofs.MeetsLaw.{meets_front, meets_shorter, meets_swap}
+use Rattle.dbpl_grammar.proofs.MeetsLaw.{meets_front, meets_swap}
 use Rattle.dbpl_grammar.proofs.TokenLaw.{ok_is}
 
 module _ {A : Type 0} {w : A → List Mark} {n : A → ℕ} {first more : List Lexeme} {empty : Bool} {read : ℕ → Parser A} (law : (limit : ℕ) → Every w n limit first more empty (read limit)) (ends : among more Finish ≡ false) where

@@ -1,12 +1,12 @@
 -- The tokens in front of a refusal can be completed: step by step.
-use Rattle.std.proofs.Common.{◌≡◌, ℕ, zero, suc, ◌+◌, ◌≤◌, ◌<◌, Bool, true, false, ◌⊎◌, inl, inr, List, [], ◌∷◌, ◌++◌, length, flat_map, append_assoc, append-nil, Option, Some, None, Result, Ok, Err, refl, sym, ap, ◌∙◌, subst, arith, not-suc-le-zero, true≢false, if◌then◌else◌}
+use Rattle.std.proofs.Common.{◌≡◌, ℕ, zero, suc, ◌<◌, Bool, true, false, ◌⊎◌, inl, inr, List, [], ◌∷◌, ◌++◌, length, flat_map, append_assoc, append-nil, Option, Some, None, Result, Ok, Err, refl, sym, ap, ◌∙◌, subst, arith, not-suc-le-zero, if◌then◌else◌}
 use Rattle.dbpl_base.specs.declared.lexeme.Lexeme.{Lexeme}
 use Rattle.dbpl_base.specs.declared.place.Place.{Place}
 use Rattle.dbpl_base.specs.declared.token.Token.{Token}
 use Rattle.dbpl_tree.specs.Marks.{Mark, Of, Before, Meets, option_marks}
 use Rattle.dbpl_grammar.specs.Reading.{Parser, Refused, ◌>>=◌, ◌<$>◌, ◌⊗>◌, after, begins, closed, either, expect, found_or, here, leaf, like, many, many_from, nothing, optional, too_deep, wrong}
-use Rattle.dbpl_grammar.proofs.Law.{AllAt, AtPlace, Completed, Opens, StartsAt, Steady, Wrote, left}
-use Rattle.dbpl_grammar.proofs.ManyLaw.{Goes, SteadyMany, steady_many_from}
+use Rattle.dbpl_grammar.proofs.Law.{AllAt, AtPlace, Completed, Opens, StartsAt, Steady, left}
+use Rattle.dbpl_grammar.proofs.ManyLaw.{Goes, steady_many_from}
 use Rattle.dbpl_grammar.proofs.MeetsLaw.{SamePlace, meets_front, meets_join, meets_swap, no_front, same_front}
 
 abbrev pub ok : {A : Type 0} → A → Result A Refused
@@ -82,8 +82,8 @@ complete_then w Is w' Is' place front c d = record {
   is = (c.is, d.is);
   placed = all_append place c.tokens d.tokens c.placed d.placed;
   meets = λ rest starts.
-    (let first = c.meets (d.tokens ++ rest) (starts_append place d.tokens rest d.placed starts) in
-    subst (λ (t : List Token). Meets (front ++ t) (w c.tree ++ w' d.tree) rest) (sym (append_assoc c.tokens d.tokens rest)) (meets_join (w c.tree) (w' d.tree) (front ++ (c.tokens ++ (d.tokens ++ rest))) (d.tokens ++ rest) rest first (d.meets rest starts)));
+      (let first = c.meets (d.tokens ++ rest) (starts_append place d.tokens rest d.placed starts) in
+      subst (λ (t : List Token). Meets (front ++ t) (w c.tree ++ w' d.tree) rest) (sym (append_assoc c.tokens d.tokens rest)) (meets_join (w c.tree) (w' d.tree) (front ++ (c.tokens ++ (d.tokens ++ rest))) (d.tokens ++ rest) rest first (d.meets rest starts)));
 }
 
 -- what was spelled in front, and a completion behind it
@@ -99,8 +99,8 @@ complete_behind w Is w' Is' place tokens middle refused front back x is meets sp
       is = (is, d.is);
       placed = d.placed;
       meets = λ rest starts.
-        (let first = meets_swap (w x) ahead.0 (back ++ refused) (back ++ (d.tokens ++ rest)) (same_start place back refused (d.tokens ++ rest) at (starts_append place d.tokens rest d.placed starts)) spelled in
-        subst (λ (t : List Token). Meets t (w x ++ w' d.tree) rest) (sym (ap (λ (f : List Token). f ++ (d.tokens ++ rest)) fronts ∙ append_assoc ahead.0 back (d.tokens ++ rest))) (meets_join (w x) (w' d.tree) (ahead.0 ++ (back ++ (d.tokens ++ rest))) (back ++ (d.tokens ++ rest)) rest first (d.meets rest starts)));
+          (let first = meets_swap (w x) ahead.0 (back ++ refused) (back ++ (d.tokens ++ rest)) (same_start place back refused (d.tokens ++ rest) at (starts_append place d.tokens rest d.placed starts)) spelled in
+          subst (λ (t : List Token). Meets t (w x ++ w' d.tree) rest) (sym (ap (λ (f : List Token). f ++ (d.tokens ++ rest)) fronts ∙ append_assoc ahead.0 back (d.tokens ++ rest))) (meets_join (w x) (w' d.tree) (ahead.0 ++ (back ++ (d.tokens ++ rest))) (back ++ (d.tokens ++ rest)) rest first (d.meets rest starts)));
     }
 
 -- a word or sign at this place
@@ -232,9 +232,11 @@ opens_after {A = A} w Is lexeme read exact some opens (token ∷ tokens) front r
         head_or : Token → List Token → Token
         head_or token [] = token
         head_or token (first ∷ others) = first
+
         tail_of : List Token → List Token
         tail_of [] = []
         tail_of (first ∷ others) = others
+
     by_like : (b : Bool) → like lexeme token.lexeme ≡ b → ((if b then Ok tokens else err {A = List Token} (wrong (token ∷ tokens))) >>= λ behind. read behind) ≡ Err refused → Completed (λ (x : A). Of lexeme ∷ w x) Is place front
     by_like true is e = by_front front split e is
     by_like false is e =
@@ -261,6 +263,7 @@ opens_then {A = A} {B = B} w Is w' Is' read next opens wrote second tokens front
         let c = later.opens middle s.front one.0 place one.1 back (at_same place one.0.rest refused.rest one.2 at) in
         complete_behind w Is w' Is' place tokens middle refused.rest front s.front x known.0 known.1 (back ∙ ap (λ (t : List Token). s.front ++ t) one.2) split at c
     by_second x middle first (inr two) = absurd (ok_isnt ((x, two.0.0), two.0.1) refused two.2)
+
     by_first : ((other : Refused) × (read tokens ≡ Err other) × (other.rest ≡ refused.rest)) ⊎ ((middle : A × List Token) × (read tokens ≡ Ok middle) × (next middle.0 middle.1 >>= (λ y. ok {A = (A × B) × List Token} ((middle.0, y.0), y.1)) ≡ Err refused)) → Completed (λ (y : A × B). w y.0 ++ w' y.1) (λ (y : A × B). Is y.0 × Is' y.0 y.1) place front
     by_first (inl one) =
         let c = opens tokens front one.0 place one.1 (split ∙ ap (λ (t : List Token). front ++ t) (sym one.2)) (at_same place one.0.rest refused.rest one.2 at) in
@@ -275,12 +278,14 @@ opens_closed {A = A} w Is lexeme read opens wrote tokens front refused place e s
     without : Completed (λ (x : A × Unit {0}). w x.0 ++ Of lexeme ∷ []) (λ (x : A × Unit {0}). Is x.0 × Unit {0}) place front → Completed (λ (x : A). w x ++ Of lexeme ∷ []) Is place front
     without c =
         complete_made (λ (x : A × Unit {0}). w x.0 ++ Of lexeme ∷ []) (λ (x : A × Unit {0}). Is x.0 × Unit {0}) (λ (x : A). w x ++ Of lexeme ∷ []) Is (λ x. x.0) (λ x is. refl) (λ x is. is.0) place front c
+
     by_second : (x : A) (middle : List Token) → read tokens ≡ Ok (x, middle) → ((other : Refused) × (expect lexeme middle ≡ Err other) × (other.rest ≡ refused.rest)) ⊎ ((rest : List Token) × (expect lexeme middle ≡ Ok rest) × (ok {A = A × List Token} (x, rest) ≡ Err refused)) → Completed (λ (x : A). w x ++ Of lexeme ∷ []) Is place front
     by_second x middle first (inl one) =
         let known = wrote x tokens middle first in
         let back : middle ≡ refused.rest = sym (expect_refuses lexeme middle one.0 one.1) ∙ one.2 in
         without (complete_behind w Is (λ (u : Unit {0}). Of lexeme ∷ []) (λ (x : A) (u : Unit {0}). Unit {0}) place tokens middle refused.rest front [] x known.0 known.1 back split at (complete_token place lexeme))
     by_second x middle first (inr two) = absurd (ok_isnt (x, two.0) refused two.2)
+
     by_first : ((other : Refused) × (read tokens ≡ Err other) × (other.rest ≡ refused.rest)) ⊎ ((middle : A × List Token) × (read tokens ≡ Ok middle) × (expect lexeme middle.1 >>= (λ rest. ok {A = A × List Token} (middle.0, rest)) ≡ Err refused)) → Completed (λ (x : A). w x ++ Of lexeme ∷ []) Is place front
     by_first (inl one) =
         let c = opens tokens front one.0 place one.1 (split ∙ ap (λ (t : List Token). front ++ t) (sym one.2)) (at_same place one.0.rest refused.rest one.2 at) in
@@ -325,6 +330,7 @@ module _ {A : Type 0} (w : A → List Mark) (Is : A → Type 0) (EachIs : List A
           let back : two.0.1 ≡ s.front ++ refused.rest = s.split ∙ ap (λ (answer : Result (List A × List Token) Refused). s.front ++ left answer) two.2 in
           let c = again (before ++ two.0.0 ∷ []) two.0.1 s.front left_enough two.2 back in
           complete_made (λ (y : A × List A). w y.0 ++ flat_map w y.1) (λ (y : A × List A). Is y.0 × EachIs y.1) (flat_map w) EachIs (λ (y : A × List A). y.0 ∷ y.1) (λ y is. refl) (λ y is. more_is y.0 y.1 is.0 is.1) place front (complete_behind w Is (flat_map w) (λ (x : A). EachIs) place tokens two.0.1 refused.rest front s.front two.0.0 known.0 known.1 back split at c)
+
       by_begins : ((before : List A) (tokens front : List Token) → length tokens < turns → many_from set read turns before tokens ≡ Err refused → tokens ≡ front ++ refused.rest → Completed (flat_map w) EachIs place front) → (b : Bool) → (if b then (read tokens >>= λ next. many_from set read turns (before ++ next.0 ∷ []) next.1) else Ok (before, tokens)) ≡ Err refused → Completed (flat_map w) EachIs place front
       by_begins again true e = by_read again (both_err (read tokens) (λ next. many_from set read turns (before ++ next.0 ∷ []) next.1) refused e)
       by_begins again false e = absurd (ok_isnt (before, tokens) refused e)

@@ -1,5 +1,5 @@
 -- A shortest phrase of each kind that counts, at any place.
-use Rattle.std.proofs.Common.{◌≡◌, List, [], ◌∷◌, ◌++◌, append-nil, Option, None, refl, sym, ap, ◌∙◌, subst}
+use Rattle.std.proofs.Common.{◌≡◌, List, [], ◌∷◌, ◌++◌, append-nil, None, refl, sym, ap, ◌∙◌, subst}
 use Rattle.dbpl_base.specs.declared.lexeme.Lexeme.TheVariants as lexemes
 use Rattle.dbpl_base.specs.declared.place.Place.{Place}
 use Rattle.dbpl_base.specs.declared.token.Token.{Token}
@@ -27,7 +27,7 @@ use Rattle.dbpl_tree.specs.declared.statements.StatementsOf.{StatementsOf}
 use Rattle.dbpl_tree.specs.declared.term.TermOf.{TermOf}
 use Rattle.dbpl_tree.specs.declared.type_tree.TypeTree.{TypeTree}
 use Rattle.dbpl_tree.specs.declared.type_tree.TypeTree.TheVariants as types
-use Rattle.dbpl_grammar.proofs.Law.{AllAt, Completed, StartsAt}
+use Rattle.dbpl_grammar.proofs.Law.{Completed, StartsAt}
 use Rattle.dbpl_grammar.proofs.OpenLaw.{complete_after, complete_made, some_here, starts_append, token_at}
 
 -- with its place in front

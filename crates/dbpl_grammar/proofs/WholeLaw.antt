@@ -2,18 +2,20 @@
 use Rattle.std.proofs.Common.{◌≡◌, ◌≢◌, ℕ, zero, suc, ◌≤◌, Bool, true, false, not, ◌&&◌, List, [], ◌∷◌, ◌++◌, length, Result, Ok, Err, refl, sym, ap, ◌∙◌, subst, append_assoc, append-nil, arith, max, true≢false, if◌then◌else◌}
 use Rattle.std.proofs.lemmas.Bool.{and_parts}
 use Rattle.dbpl_base.specs.declared.lexeme.Lexeme.TheVariants.{Finish}
+use Rattle.dbpl_base.specs.declared.place.Place.{Place}
 use Rattle.dbpl_base.specs.declared.token.Token.{Token}
 use Rattle.dbpl_tree.specs.Marks.{Of, Meets}
 use Rattle.dbpl_tree.specs.UnitDepths.{unit_depth}
-use Rattle.dbpl_tree.specs.Units.{text_marks, unit_marks}
+use Rattle.dbpl_tree.specs.Units.{SpellsUnit, text_marks, unit_marks}
 use Rattle.dbpl_tree.specs.declared.unit.Unit.{Unit as Module}
-use Rattle.dbpl_grammar.specs.Laws.{HasEnd, IsText, NamesToken, NoneBegins, OneUnit, ReadsUnits, RefusesUnits, SpelledUnits}
+use Rattle.dbpl_grammar.specs.Laws.{BegunUnits, HasEnd, IsText, NamesToken, NoneBegins, OneUnit, ReadsUnits, RefusesUnits, SpelledUnits, TextBegun}
 use Rattle.dbpl_grammar.specs.Reading.{Refused, ◌>>=◌, begins, closed, expect, like, wrong}
 use Rattle.dbpl_grammar.specs.Units.{at_end, depth_limit, unit, whole_unit}
-use Rattle.dbpl_grammar.proofs.OpenLaw.{err}
+use Rattle.dbpl_grammar.proofs.OpenLaw.{err, token_at}
 use Rattle.dbpl_grammar.proofs.JoinLaw.{expect_meets}
-use Rattle.dbpl_grammar.proofs.Law.{Steady, no_end}
-use Rattle.dbpl_grammar.proofs.MeetsLaw.{meets_join, meets_split}
+use Rattle.dbpl_grammar.proofs.Law.{AtPlace, Steady, no_end}
+use Rattle.dbpl_grammar.proofs.MeetsLaw.{SamePlace, meets_join, meets_split, meets_swap}
+use Rattle.dbpl_grammar.proofs.Sets.{fixed_is}
 use Rattle.dbpl_grammar.proofs.SteadyLaw.{no_head, same_head}
 use Rattle.dbpl_grammar.proofs.TokenLaw.{both_ok, err_isnt, expect_ok, ok_is}
 use Rattle.dbpl_grammar.proofs.UnitLaw.{law_unit}
@@ -188,3 +190,64 @@ names_token tokens refused end e none = by_stop (stops tokens refused e)
         let t : Steady (unit depth_limit) tokens (Ok (found, refused.rest)) = subst (λ (answer : Result (Module × List Token) Refused). Steady (unit depth_limit) tokens answer) is s in
         not_all tokens t.front end t.inside (t.split ∙ ap (λ (rest : List Token). t.front ++ rest) none ∙ append-nil t.front)
     by_stop (behind_end found finish token behind is like_it same) = no_head token behind (sym none ∙ same)
+
+-- ---- what stands in front of a refusal
+
+first_place : List Token → Place
+first_place [] = record { unit = 0; line = 0; col = 0 }
+first_place (token ∷ rest) = token.place
+
+at_first : (rest : List Token) → AtPlace (first_place rest) rest
+unfolding first_place
+at_first [] = tt
+at_first (token ∷ rest) = refl
+
+finish_place : (rest : List Token) → SamePlace rest (token_at (first_place rest) Finish ∷ [])
+unfolding first_place
+finish_place [] = tt
+finish_place (token ∷ rest) = refl
+
+-- a unit, and the end of the text behind it
+ended : (tokens : List Token) (finish : Token) (u : Module) → finish.lexeme ≡ Finish → Meets tokens (unit_marks u) (finish ∷ []) → SpellsUnit tokens u
+ended tokens finish u is meets = meets_join (unit_marks u) (Of Finish ∷ []) tokens (finish ∷ []) [] meets (is, refl)
+
+pub begun_units : BegunUnits
+begun_units tokens refused e = by_stop (stops tokens refused e)
+  where
+    by_stop : Stops tokens refused → TextBegun tokens refused.rest
+    by_stop (in_unit other is same) =
+        let s = (law_unit depth_limit).steady tokens in
+        let t : Steady (unit depth_limit) tokens (Err other) = subst (λ (answer : Result (Module × List Token) Refused). Steady (unit depth_limit) tokens answer) is s in
+        let place = first_place other.rest in
+        let c = (law_unit depth_limit).opens tokens t.front other place is t.split (at_first other.rest) in
+        let finish = token_at place Finish in
+        record {
+          front = t.front;
+          split = t.split ∙ ap (λ (rest : List Token). t.front ++ rest) same;
+          others = c.tokens ++ finish ∷ [];
+          unit = c.tree;
+          spelled = ended (t.front ++ (c.tokens ++ finish ∷ [])) finish c.tree refl (c.meets (finish ∷ []) refl);
+        }
+    by_stop (at_no_end found is unlike) =
+        let s = (law_unit depth_limit).steady tokens in
+        let t : Steady (unit depth_limit) tokens (Ok (found, refused.rest)) = subst (λ (answer : Result (Module × List Token) Refused). Steady (unit depth_limit) tokens answer) is s in
+        let wrote = (law_unit depth_limit).wrote found tokens refused.rest is in
+        let finish = token_at (first_place refused.rest) Finish in
+        record {
+          front = t.front;
+          split = t.split;
+          others = finish ∷ [];
+          unit = found;
+          spelled = ended (t.front ++ finish ∷ []) finish found refl (meets_swap (unit_marks found) t.front refused.rest (finish ∷ []) (finish_place refused.rest) (subst (λ (all : List Token). Meets all (unit_marks found) refused.rest) t.split wrote.meets));
+        }
+    by_stop (behind_end found finish token behind is like_it same) =
+        let s = (law_unit depth_limit).steady tokens in
+        let t : Steady (unit depth_limit) tokens (Ok (found, finish ∷ token ∷ behind)) = subst (λ (answer : Result (Module × List Token) Refused). Steady (unit depth_limit) tokens answer) is s in
+        let wrote = (law_unit depth_limit).wrote found tokens (finish ∷ token ∷ behind) is in
+        record {
+          front = t.front ++ finish ∷ [];
+          split = t.split ∙ sym (append_assoc t.front (finish ∷ []) (token ∷ behind)) ∙ ap (λ (rest : List Token). (t.front ++ finish ∷ []) ++ rest) (sym same);
+          others = [];
+          unit = found;
+          spelled = subst (λ (all : List Token). SpellsUnit all found) (sym (append-nil (t.front ++ finish ∷ []))) (ended (t.front ++ finish ∷ []) finish found (fixed_is Finish finish.lexeme refl like_it) (meets_swap (unit_marks found) t.front (finish ∷ token ∷ behind) (finish ∷ []) refl (subst (λ (all : List Token). Meets all (unit_marks found) (finish ∷ token ∷ behind)) t.split wrote.meets)));
+        }

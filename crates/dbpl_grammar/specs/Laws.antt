@@ -40,6 +40,19 @@ abbrev pub RefusesUnits : Type 0
 RefusesUnits =
     (tokens : List Token) (refused : Refused) → whole_unit depth_limit tokens ≡ Err refused → NoneBegins tokens refused.rest
 
+-- The tokens in front of the rest begin a text: with others behind them they spell some unit, of any depth.
+pub record TextBegun (tokens rest : List Token) : Type 0 where
+  pub front : List Token
+  pub split : tokens ≡ front ++ rest
+  pub others : List Token
+  pub unit : Module
+  pub spelled : SpellsUnit (front ++ others) unit
+
+-- where a text is refused, it has begun well
+abbrev pub BegunUnits : Type 0
+BegunUnits =
+    (tokens : List Token) (refused : Refused) → whole_unit depth_limit tokens ≡ Err refused → TextBegun tokens refused.rest
+
 -- the last token is the end of the text, as a text's tokens have it
 abbrev pub HasEnd : List Token → Type 0
 HasEnd tokens = (front : List Token) × (finish : Token) × (tokens ≡ front ++ finish ∷ []) × (finish.lexeme ≡ Finish)
@@ -94,3 +107,19 @@ RefusesPhrase marks depth read =
 abbrev pub NamesPhraseToken : {A : Type 0} → (ℕ → Parser A) → Type 0
 NamesPhraseToken read =
     (limit : ℕ) (tokens : List Token) (refused : Refused) → HasEnd tokens → read limit tokens ≡ Err refused → refused.rest ≢ []
+
+-- The tokens in front of the rest begin a phrase: with others behind them they are among those that spell one, of any
+-- depth.
+pub record PhraseBegun {A : Type 0} (marks : A → List Mark) (tokens rest : List Token) : Type 0 where
+  pub front : List Token
+  pub split : tokens ≡ front ++ rest
+  pub others : List Token
+  pub left : List Token
+  pub phrase : A
+  pub spelled : Meets (front ++ others) (marks phrase) left
+  pub within : length left ≤ length others
+
+-- where a phrase is refused, it has begun well
+abbrev pub BegunPhrase : {A : Type 0} → (A → List Mark) → (ℕ → Parser A) → Type 0
+BegunPhrase marks read =
+    (limit : ℕ) (tokens : List Token) (refused : Refused) → read limit tokens ≡ Err refused → PhraseBegun marks tokens refused.rest

@@ -1,5 +1,5 @@
 //! Laws of the grammar. The functions do nothing: their contracts are the laws.
-ghost use Rattle.dbpl_grammar.specs.Laws.{NamesPhraseToken, NamesToken, OneTree, OneUnit, PhraseIsRead, ReadsPhrase, ReadsUnits, RefusesPhrase, RefusesUnits, SpelledUnits};
+ghost use Rattle.dbpl_grammar.specs.Laws.{BegunPhrase, BegunUnits, NamesPhraseToken, NamesToken, OneTree, OneUnit, PhraseIsRead, ReadsPhrase, ReadsUnits, RefusesPhrase, RefusesUnits, SpelledUnits};
 ghost use Rattle.dbpl_grammar.specs.Expressions.{aggregate, at_depth, designator};
 ghost use Rattle.dbpl_tree.specs.Depths.{aggregate_depth, designator_depth, expr_depth, factor_depth, range_depth};
 ghost use Rattle.dbpl_tree.specs.Declarations.{common_marks, decl_marks, heading_marks, item_marks, params_marks, plain_marks};
@@ -36,6 +36,7 @@ pub fn reads_units()
     ensures complete { ReadsUnits }
     ensures sound { SpelledUnits }
     ensures refused { RefusesUnits }
+    ensures begun { BegunUnits }
     ensures named { NamesToken }
 {}
 
@@ -45,6 +46,7 @@ pub fn reads_expressions()
     ensures found { ReadsPhrase (expr_marks factor_marks) (expr_depth factor_depth) (λ limit. (at_depth limit).expr) }
     ensures only { PhraseIsRead (expr_marks factor_marks) (expr_depth factor_depth) (λ limit. (at_depth limit).expr) }
     ensures refused { RefusesPhrase (expr_marks factor_marks) (expr_depth factor_depth) (λ limit. (at_depth limit).expr) }
+    ensures begun { BegunPhrase (expr_marks factor_marks) (λ limit. (at_depth limit).expr) }
     ensures named { NamesPhraseToken (λ limit. (at_depth limit).expr) }
 {}
 
@@ -54,6 +56,7 @@ pub fn reads_designators()
     ensures found { ReadsPhrase (designator_marks factor_marks) (designator_depth factor_depth) (λ limit. designator (at_depth limit).expr) }
     ensures only { PhraseIsRead (designator_marks factor_marks) (designator_depth factor_depth) (λ limit. designator (at_depth limit).expr) }
     ensures refused { RefusesPhrase (designator_marks factor_marks) (designator_depth factor_depth) (λ limit. designator (at_depth limit).expr) }
+    ensures begun { BegunPhrase (designator_marks factor_marks) (λ limit. designator (at_depth limit).expr) }
     ensures named { NamesPhraseToken (λ limit. designator (at_depth limit).expr) }
 {}
 
@@ -63,6 +66,7 @@ pub fn reads_ranges()
     ensures found { ReadsPhrase range_marks range_depth (λ limit. (at_depth limit).range) }
     ensures only { PhraseIsRead range_marks range_depth (λ limit. (at_depth limit).range) }
     ensures refused { RefusesPhrase range_marks range_depth (λ limit. (at_depth limit).range) }
+    ensures begun { BegunPhrase range_marks (λ limit. (at_depth limit).range) }
     ensures named { NamesPhraseToken (λ limit. (at_depth limit).range) }
 {}
 
@@ -72,5 +76,6 @@ pub fn reads_aggregates()
     ensures found { ReadsPhrase aggregate_marks aggregate_depth (λ limit. aggregate (at_depth limit)) }
     ensures only { PhraseIsRead aggregate_marks aggregate_depth (λ limit. aggregate (at_depth limit)) }
     ensures refused { RefusesPhrase aggregate_marks aggregate_depth (λ limit. aggregate (at_depth limit)) }
+    ensures begun { BegunPhrase aggregate_marks (λ limit. aggregate (at_depth limit)) }
     ensures named { NamesPhraseToken (λ limit. aggregate (at_depth limit)) }
 {}

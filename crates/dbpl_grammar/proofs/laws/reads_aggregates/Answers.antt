@@ -17,3 +17,6 @@ returns-clause-refused c = call.refuses_phrase (λ (limit : ℕ). law_aggregate 
 
 pub returns-clause-named : goal.returns-clause-named
 returns-clause-named c = call.names_phrase_token (λ (limit : ℕ). law_aggregate (inner_law limit))
+
+pub returns-clause-begun : goal.returns-clause-begun
+returns-clause-begun c = call.begun_phrase (λ (limit : ℕ). law_aggregate (inner_law limit))

@@ -16,3 +16,6 @@ returns-clause-refused c = call.refuses_phrase (λ (limit : ℕ). (inner_law lim
 
 pub returns-clause-named : goal.returns-clause-named
 returns-clause-named c = call.names_phrase_token (λ (limit : ℕ). (inner_law limit).expr)
+
+pub returns-clause-begun : goal.returns-clause-begun
+returns-clause-begun c = call.begun_phrase (λ (limit : ℕ). (inner_law limit).expr)

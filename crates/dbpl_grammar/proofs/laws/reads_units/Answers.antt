@@ -12,3 +12,6 @@ returns-clause-refused c = whole.refuses_units
 
 pub returns-clause-named : goal.returns-clause-named
 returns-clause-named c = whole.names_token
+
+pub returns-clause-begun : goal.returns-clause-begun
+returns-clause-begun c = whole.begun_units
