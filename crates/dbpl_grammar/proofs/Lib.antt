@@ -18,6 +18,7 @@ pub mod OneTree
 pub mod OpenLaw
 pub mod OperatorLaw
 pub mod OperatorTables
+pub mod PlacedLaw
 pub mod RangeLaw
 pub mod Ready
 pub mod Sets
