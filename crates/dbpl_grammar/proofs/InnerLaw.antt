@@ -136,6 +136,7 @@ same_qual one other same is = by_parts one.parts other.parts (ap (λ (ls : List 
     behind_name [] e = refl
     behind_name (Field name ∷ parts) e = absurd (let some : full_stop ∷ _ ≡ [] = e in cc)
     behind_name (Subscripts place es ∷ parts) e = absurd (let some : left_bracket ∷ _ ≡ [] = e in cc)
+
     by_parts : (parts others : List (PartOf Factor)) → lexemes_in (flat_map (part_marks factor_marks) others) ≡ lexemes_in (flat_map (part_marks factor_marks) parts) → are_qual parts ≡ true → are_qual others ≡ true
     by_parts [] others e is = ap (λ (ps : List (PartOf Factor)). are_qual ps) (behind_name others e)
     by_parts (Field name ∷ []) [] e is = refl
@@ -146,6 +147,7 @@ same_qual one other same is = by_parts one.parts other.parts (ap (λ (ls : List 
       where
         sign_row : Lexeme → ℕ
         sign_row l = (kind_of l).1
+
         head_row : List Lexeme → ℕ
         head_row [] = 0
         head_row (l ∷ ls) = (kind_of l).1

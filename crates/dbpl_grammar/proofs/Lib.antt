@@ -23,6 +23,7 @@ pub mod RangeLaw
 pub mod Ready
 pub mod Sets
 pub mod Sharp
+pub mod Spellings
 pub mod StatementLaw
 pub mod SharpExpr
 pub mod SharpFactor
