@@ -1,2 +1,12 @@
-pub mod Program
+pub mod Declarations
+pub mod Depths
+pub mod Expressions
+pub mod Factors
+pub mod Marks
+pub mod Names
+pub mod Operators
+pub mod Statements
+pub mod TypeTrees
+pub mod UnitDepths
+pub mod Units
 pub mod Words
