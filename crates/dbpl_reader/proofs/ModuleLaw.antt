@@ -7,9 +7,9 @@ use Rattle.dbpl_base.specs.Scans.{AreBlanks}
 use Rattle.dbpl_base.specs.Words.{is_blank}
 use Rattle.dbpl_base.specs.declared.lexeme.Lexeme.{Lexeme}
 use Rattle.dbpl_base.specs.declared.lexeme.Lexeme.TheVariants.{Finish, Ident, Reserved}
-use Rattle.dbpl_tree.specs.Program.{IsModuleName, IsSmall, SpellsProgram, spell, spell_heading, spell_statements}
+use Rattle.dbpl_reader.specs.Program.{IsModuleName, IsSmall, SpellsProgram, spell, spell_heading, spell_statements}
 use Rattle.dbpl_tree.specs.Words.{comma, full_stop, in_out, semicolon, word_begin, word_end, word_from, word_import, write_ln, write_string}
-use Rattle.dbpl_tree.specs.declared.program.Program.{Program}
+use Rattle.dbpl_reader.specs.declared.program.Program.{Program}
 use Rattle.dbpl_reader.specs.Modules.{ending, first_module, heading, imports}
 use Rattle.dbpl_reader.specs.Names.{module_name}
 use Rattle.dbpl_reader.specs.Statements.{statements}

@@ -7,7 +7,7 @@ use Rattle.std.proofs.lemmas.Slice.Eq.{bytes_eq-Decides}
 use Rattle.dbpl_base.specs.Spelling.{IsIdentifier}
 use Rattle.dbpl_base.specs.Words.{is_word_byte, reserved_words}
 use Rattle.dbpl_base.specs.declared.lexeme.Lexeme.TheVariants.{Ident}
-use Rattle.dbpl_tree.specs.Program.{IsModuleName}
+use Rattle.dbpl_reader.specs.Program.{IsModuleName}
 use Rattle.dbpl_tree.specs.Words.{in_out, write_ln, write_string}
 use Rattle.dbpl_reader.specs.Names.{begins_with_letter, is_imported, is_reserved, may_name, module_name}
 use Rattle.dbpl_reader.specs.Tokens.{after_blanks, next_word}

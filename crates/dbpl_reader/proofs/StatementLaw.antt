@@ -2,10 +2,10 @@
 use Rattle.std.proofs.Common.{◌≡◌, ◌≢◌, ℕ, zero, suc, ◌≤◌, ◌<◌, List, [], ◌∷◌, ◌++◌, length, refl, sym, ap, ◌∙◌, subst, Option, Some, None, arith, le_refl, append_assoc}
 use Rattle.std.specs.Prelude.{option_map}
 use Rattle.dbpl_base.specs.declared.lexeme.Lexeme.TheVariants.{Ident, Text}
-use Rattle.dbpl_tree.specs.Program.{spell_statement, spell_statements}
+use Rattle.dbpl_reader.specs.Program.{spell_statement, spell_statements}
 use Rattle.dbpl_tree.specs.Words.{left_parenthesis, right_parenthesis, semicolon, write_ln, write_string}
-use Rattle.dbpl_tree.specs.declared.statement.Statement.{Statement}
-use Rattle.dbpl_tree.specs.declared.statement.Statement.TheVariants.{WriteLn, WriteString}
+use Rattle.dbpl_reader.specs.declared.statement.Statement.{Statement}
+use Rattle.dbpl_reader.specs.declared.statement.Statement.TheVariants.{WriteLn, WriteString}
 use Rattle.dbpl_reader.specs.Statements.{going_on, statement, statement_or, statements, statements_up_to, with_first, write_string_in}
 use Rattle.dbpl_reader.specs.Tokens.{left_byte, quoted, right_byte, semicolon_byte, sign, word}
 use Rattle.dbpl_reader.proofs.FixedWords.{takes_left, takes_right, takes_semicolon, takes_write_ln, takes_write_string}

@@ -1,6 +1,7 @@
 pub mod Gives
 pub mod Modules
 pub mod Names
+pub mod Program
 pub mod Statements
 pub mod Steps
 pub mod Tokens

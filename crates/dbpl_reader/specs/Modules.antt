@@ -1,7 +1,7 @@
 -- What is read of a module as a whole.
 use Rattle.std.specs.Prelude.{ℕ, List, Option, Some, codes}
 use Rattle.dbpl_tree.specs.Words.{in_out, write_ln, write_string}
-use Rattle.dbpl_tree.specs.declared.program.Program.{Program}
+use Rattle.dbpl_reader.specs.declared.program.Program.{Program}
 use Rattle.dbpl_reader.specs.Names.{module_name}
 use Rattle.dbpl_reader.specs.Statements.{statements}
 use Rattle.dbpl_reader.specs.Steps.{◌>>=◌}

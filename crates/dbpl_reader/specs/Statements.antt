@@ -1,8 +1,8 @@
 -- What is read of a module's body.
 use Rattle.std.specs.Prelude.{ℕ, zero, suc, List, [], ◌∷◌, length, Option, Some, None, option_map}
 use Rattle.dbpl_tree.specs.Words.{write_ln, write_string}
-use Rattle.dbpl_tree.specs.declared.statement.Statement.{Statement}
-use Rattle.dbpl_tree.specs.declared.statement.Statement.TheVariants.{WriteLn, WriteString}
+use Rattle.dbpl_reader.specs.declared.statement.Statement.{Statement}
+use Rattle.dbpl_reader.specs.declared.statement.Statement.TheVariants.{WriteLn, WriteString}
 use Rattle.dbpl_reader.specs.Steps.{◌>>=◌}
 use Rattle.dbpl_reader.specs.Tokens.{left_byte, quoted, right_byte, semicolon_byte, sign, word}
 

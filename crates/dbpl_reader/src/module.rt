@@ -1,17 +1,16 @@
 //! A module as a whole: its heading, its body and its end.
 ghost use Rattle.std.specs.Prelude.{◌≡◌, ◌≢◌, ℕ, List, IfOk, IfErr};
 ghost use Rattle.std.specs.Option.{option_copied, option_map};
-ghost use Rattle.dbpl_tree.specs.Program.{SpellsProgram};
-ghost use Rattle.dbpl_tree.specs.declared.program.Program.{Program};
+ghost use Rattle.dbpl_reader.specs.Program.{SpellsProgram};
+ghost use Rattle.dbpl_reader.specs.declared.program.Program.{Program};
 ghost use Rattle.dbpl_reader.specs.Gives.{Gives};
 ghost use Rattle.dbpl_reader.specs.Modules as spec;
 
-use crate::ReadErr;
+use crate::{Program, ReadErr};
 use crate::names::module_name;
 use crate::statements::statements;
 use crate::tokens::{after_blanks, sign, word};
 use dbpl_base::name_of;
-use dbpl_tree::Program;
 use std::alloc::Global;
 
 /// What follows the imports.

@@ -4,10 +4,9 @@ ghost use Rattle.std.specs.Option.{option_map};
 ghost use Rattle.dbpl_reader.specs.Statements as spec;
 ghost use Rattle.dbpl_reader.specs.Gives.{Gives};
 
-use crate::ReadErr;
+use crate::{ReadErr, Statement};
 use crate::tokens::{quoted, sign, word};
 use dbpl_base::{List, name_of};
-use dbpl_tree::Statement;
 use std::alloc::Global;
 
 /// The string that a WriteString writes, and what follows the statement.

@@ -1,7 +1,6 @@
 //! Texts that are read, and texts that are refused, with ample memory.
-use crate::{ReadErr, read};
+use crate::{Program, ReadErr, Statement, read};
 use dbpl_base::{List, name_of};
-use dbpl_tree::{Program, Statement};
 use std::test::Fail;
 
 const HELLO: &str = "MODULE Hello;

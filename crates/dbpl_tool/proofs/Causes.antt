@@ -9,7 +9,7 @@ use Rattle.dbpl_tool.specs.Answers.{Caused, IsNotRead, IsTheModule, Reads, Run, 
 use Rattle.dbpl_tool.specs.Asked.{Asks}
 use Rattle.dbpl_tool.specs.Meaning.{printed_by}
 use Rattle.dbpl_tool.specs.Sources.{IsUnread}
-use Rattle.dbpl_tree.specs.declared.program.Program.{Program}
+use Rattle.dbpl_reader.specs.declared.program.Program.{Program}
 use Rattle.dbpl_world.specs.Counts.{Rose}
 use Rattle.dbpl_world.specs.History.{Event, History, Noted, Said, more}
 

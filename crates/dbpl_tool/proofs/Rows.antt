@@ -14,8 +14,8 @@ use Rattle.dbpl_tool.proofs.Moments.{all_prefix, nothing_prefix}
 use Rattle.dbpl_tool.specs.Asked.{Asks}
 use Rattle.dbpl_tool.specs.Headline.{PrintsAll, PrintsPrefix}
 use Rattle.dbpl_tool.specs.Sources.{IsAbsent, IsTooLong}
-use Rattle.dbpl_tree.specs.Program.{SpellsProgram}
-use Rattle.dbpl_tree.specs.declared.program.Program.{Program}
+use Rattle.dbpl_reader.specs.Program.{SpellsProgram}
+use Rattle.dbpl_reader.specs.declared.program.Program.{Program}
 use Rattle.dbpl_world.specs.Counts.{OnlyNoteFaults, OnlySayFaults, Rose}
 use Rattle.dbpl_world.specs.declared.counts.Counts.{Counts}
 use Rattle.dbpl_world.specs.Files.{Files, file_of}

@@ -8,8 +8,8 @@ use Rattle.dbpl_base.specs.declared.limits.TheConstants.{SOURCE_BYTES}
 use Rattle.dbpl_tool.specs.Asked.{Asks}
 use Rattle.dbpl_tool.specs.Headline.{PrintsAll, PrintsPrefix}
 use Rattle.dbpl_tool.specs.Sources.{IsAbsent, IsTooLong}
-use Rattle.dbpl_tree.specs.Program.{SpellsProgram}
-use Rattle.dbpl_tree.specs.declared.program.Program.{Program}
+use Rattle.dbpl_reader.specs.Program.{SpellsProgram}
+use Rattle.dbpl_reader.specs.declared.program.Program.{Program}
 use Rattle.dbpl_world.specs.Counts.{Rose}
 use Rattle.dbpl_world.specs.declared.counts.Counts.{Counts}
 use Rattle.dbpl_world.specs.Files.{Files, file_of}

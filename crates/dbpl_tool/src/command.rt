@@ -5,8 +5,8 @@ ghost use Rattle.dbpl_tool.specs.Answers.{Caused, IsNoModule, IsOrMemory, IsSile
 ghost use Rattle.dbpl_tool.specs.Asked.{Asks};
 ghost use Rattle.dbpl_tool.specs.Headline.{NotedSince, OnlyOutputFaults, PrintsAll, PrintsPrefix, SaidSince};
 ghost use Rattle.dbpl_tool.specs.Sources.{IsAbsent, IsTooLong};
-ghost use Rattle.dbpl_tree.specs.Program.{SpellsProgram};
-ghost use Rattle.dbpl_tree.specs.declared.program.Program.{Program};
+ghost use Rattle.dbpl_reader.specs.Program.{SpellsProgram};
+ghost use Rattle.dbpl_reader.specs.declared.program.Program.{Program};
 ghost use Rattle.dbpl_world.specs.Counts.{Rose};
 ghost use Rattle.dbpl_world.specs.Files.{file_of};
 ghost use Rattle.dbpl_world.specs.History.{Noted, Said, more, now};

@@ -5,8 +5,7 @@ ghost use Rattle.dbpl_tool.specs.Sources.{IsUnread};
 ghost use Rattle.dbpl_world.specs.Files.{file_of};
 
 use dbpl_base::{Place, SOURCE_BYTES, Status, name_of};
-use dbpl_reader::{ReadErr, read};
-use dbpl_tree::Program;
+use dbpl_reader::{Program, ReadErr, read};
 use dbpl_world::{Shelf, ShelfErr};
 use std::alloc::Global;
 

@@ -1,8 +1,44 @@
-//! The syntax tree of a module, and which lexemes spell it. So far it has the modules that print lines.
+//! The syntax tree of a text: one type for each production of the grammar, with its parts in the order of the text.
+//! A struct that only holds what a loop of the grammar leads back to is generic in that, and has its production's
+//! name without `Of`.
 #![tactic(auto)]
 
-mod program;
+mod aggregate;
+mod case;
+mod decl;
+mod designator;
+mod each;
+mod element;
+mod expr;
+mod factor;
+mod heading;
+mod ident;
+mod operators;
+mod range;
+mod simple;
 mod statement;
+mod statements;
+mod term;
+mod type_tree;
+mod unit;
 
-pub use program::Program;
-pub use statement::Statement;
+pub use aggregate::Aggregate;
+pub use case::{Case, CaseOf, Label};
+pub use decl::{Common, ConstDecl, Decl, DefinitionItem, PlainDecl, Routine, TypeDecl, VarDecl};
+pub use designator::{Arguments, ArgumentsOf, Designator, DesignatorOf, Part, PartOf};
+pub use each::Each;
+pub use element::Element;
+pub use expr::{Compared, ComparedOf, Expr, ExprOf, Exprs, ExprsOf};
+pub use factor::Factor;
+pub use heading::{Heading, Params, RoutineWord, Section, Signature};
+pub use ident::{Ident, Idents, Qual};
+pub use operators::{
+    AddingOperator, ChangeOperator, MultiplyingOperator, NotOperator, Quantifier, Relation, SignOperator,
+};
+pub use range::Range;
+pub use simple::{Added, AddedOf, Simple, SimpleOf};
+pub use statement::{Elsif, ElsifOf, Statement};
+pub use statements::{Statements, StatementsOf};
+pub use term::{Multiplied, MultipliedOf, Term, TermOf};
+pub use type_tree::{Fields, FieldsOf, TypeTree};
+pub use unit::{DataUnit, DefinitionUnit, Import, Program, Unit};

@@ -7,9 +7,9 @@ use Rattle.dbpl_base.specs.declared.lexeme.Lexeme.{Lexeme}
 use Rattle.dbpl_base.specs.declared.lexeme.Lexeme.TheVariants.{Ident, Text, Finish}
 use Rattle.dbpl_base.specs.declared.token.Token.{Token}
 use Rattle.dbpl_tree.specs.Words.{comma, full_stop, in_out, left_parenthesis, right_parenthesis, semicolon, word_begin, word_end, word_from, word_import, word_module, write_ln, write_string}
-use Rattle.dbpl_tree.specs.declared.program.Program.{Program}
-use Rattle.dbpl_tree.specs.declared.statement.Statement.{Statement}
-use Rattle.dbpl_tree.specs.declared.statement.Statement.TheVariants.{WriteLn, WriteString}
+use Rattle.dbpl_reader.specs.declared.program.Program.{Program}
+use Rattle.dbpl_reader.specs.declared.statement.Statement.{Statement}
+use Rattle.dbpl_reader.specs.declared.statement.Statement.TheVariants.{WriteLn, WriteString}
 
 -- WriteLn, or WriteString with its string in parentheses
 abbrev pub spell_statement : Statement → List Lexeme
