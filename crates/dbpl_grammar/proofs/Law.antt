@@ -1,0 +1,46 @@
+-- What is proved of each reading function: it reads what is spelled, what it reads was spelled so, and what it answers
+-- rests on the tokens up to the first one left.
+use Rattle.std.proofs.Common.{◌≡◌, ℕ, ◌≤◌, Bool, true, false, List, ◌∷◌, ◌++◌, length, Result, Ok, Err}
+use Rattle.dbpl_base.specs.declared.lexeme.Lexeme.{Lexeme}
+use Rattle.dbpl_base.specs.declared.token.Token.{Token}
+use Rattle.dbpl_grammar.specs.Local.{Mark, Meets}
+use Rattle.dbpl_grammar.specs.Reading.{Parser, Refused, among, begins}
+
+-- how the tokens of a phrase begin, which lead to `rest`: with one of these lexemes, or the phrase has no token
+pub data BeginsBy (first : List Lexeme) (empty : Bool) (tokens rest : List Token) : Type 0 where
+  by_token : (token : Token) (behind : List Token) → tokens ≡ token ∷ behind → among first token.lexeme ≡ true → length rest ≤ length behind → BeginsBy first empty tokens rest
+  by_nothing : empty ≡ true → tokens ≡ rest → BeginsBy first empty tokens rest
+
+-- these tokens don't go on with one of these lexemes
+abbrev pub Ends : List Lexeme → List Token → Type 0
+Ends more rest = begins more rest ≡ false
+
+-- this tree was spelled, and isn't too deep
+pub record Wrote {A : Type 0} (marks : A → List Mark) (depth : A → ℕ) (limit : ℕ) (Is : A → Type 0) (found : A) (tokens rest : List Token) : Type 0 where
+  pub is : Is found
+  pub fits : depth found ≤ limit
+  pub meets : Meets tokens (marks found) rest
+
+-- the tokens left, also those that weren't read
+abbrev pub left : {A : Type 0} → Result (A × List Token) Refused → List Token
+left (Ok found) = found.1
+left (Err refused) = refused.rest
+
+-- the same answer, with these tokens left
+abbrev pub leaving : {A : Type 0} → List Token → Result (A × List Token) Refused → Result (A × List Token) Refused
+leaving rest (Ok found) = Ok (found.0, rest)
+leaving rest (Err refused) = Err (record { reason = refused.reason; rest = rest })
+
+-- the answer rests on the tokens up to and with the first one left
+pub record Steady {A : Type 0} (read : Parser A) (tokens : List Token) (answer : Result (A × List Token) Refused) : Type 0 where
+  pub front : List Token
+  pub split : tokens ≡ front ++ left answer
+  pub holds : (token : Token) (behind other : List Token) → left answer ≡ token ∷ behind → read (front ++ token ∷ other) ≡ leaving (token ∷ other) answer
+
+-- The law of a reading function. Its trees are those that satisfy `Is`; their spellings begin with a lexeme of `first`
+-- or may be empty; where none of `more` stands behind, the phrase ends.
+pub record Law {A : Type 0} (marks : A → List Mark) (depth : A → ℕ) (limit : ℕ) (first more : List Lexeme) (empty : Bool) (Is : A → Type 0) (read : Parser A) : Type 0 where
+  pub begins_by : (found : A) (tokens rest : List Token) → Is found → depth found ≤ limit → Meets tokens (marks found) rest → BeginsBy first empty tokens rest
+  pub reads : (found : A) (tokens rest : List Token) → Is found → depth found ≤ limit → Meets tokens (marks found) rest → Ends more rest → read tokens ≡ Ok (found, rest)
+  pub wrote : (found : A) (tokens rest : List Token) → read tokens ≡ Ok (found, rest) → Wrote marks depth limit Is found tokens rest
+  pub steady : (tokens : List Token) → Steady read tokens (read tokens)

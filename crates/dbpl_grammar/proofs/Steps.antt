@@ -1,0 +1,1 @@
+-- The ways in which reading functions are put together keep the law.

@@ -1,0 +1,4 @@
+pub mod Expressions
+pub mod Lexemes
+pub mod Local
+pub mod Reading
