@@ -215,9 +215,6 @@ pub never_closes : (depth : ℕ) (text left rest : List ℕ) → Same 0 text dep
 never_closes depth text left rest same empty h =
     none_at_end depth rest (subst (λ (t : List ℕ). CloseAll depth t rest) empty (same.there rest h))
 
-pub same_start : (text : List ℕ) → Same 0 text 0 text
-same_start text = record { there = λ rest h. h; back = λ rest h. h }
-
 pub same_more : (text left behind : List ℕ) (depth deep : ℕ) → Same 0 text depth left → Same depth left deep behind → Same 0 text deep behind
 same_more text left behind depth deep one two = record {
   there = λ rest h. two.there rest (one.there rest h);

@@ -118,15 +118,6 @@ gap_comment text rest behind h o k =
 pub comment_opens : (text : List ℕ) → CommentStands text → OpensComment text
 comment_opens text h = (h.3.0 ++ h.1, h.2 ∙ ap (λ (t : List ℕ). t ++ h.1) h.3.1)
 
-pub gap_stands : (text rest : List ℕ) → GapTo text rest → (BlankStands rest → ⊥) → (OpensComment rest → ⊥) → GapStands text rest
-gap_stands text rest h no_blank no_open = record {
-  gap = h.0;
-  split = h.1;
-  between = h.2;
-  no_blank = no_blank;
-  no_comment = λ c. no_open (comment_opens rest c);
-}
-
 -- a comment that never closes ends the gap too
 pub gap_stands_open : (text rest : List ℕ) → GapTo text rest → (BlankStands rest → ⊥) → OpensComment rest → ((behind : List ℕ) → Closes (drop 2 rest) behind → ⊥) → GapStands text rest
 gap_stands_open text rest h no_blank o never = record {

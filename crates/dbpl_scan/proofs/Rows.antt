@@ -1,9 +1,9 @@
 -- Rows of a table of words, and the tables of reserved words and of signs.
-use Rattle.std.proofs.Common.{◌≡◌, ◌⊎◌, ℕ, zero, suc, Bool, true, false, ◌&&◌, not, List, [], ◌∷◌, refl, sym, ◌∙◌, ap, inl, inr, Some, None, ◌≤◌, ◌<◌, length, get_or, leb-true, ltb-true, lt-ltb, ◌+◌, Option, arith}
+use Rattle.std.proofs.Common.{◌≡◌, ℕ, zero, suc, Bool, true, false, ◌&&◌, not, List, [], ◌∷◌, refl, sym, ◌∙◌, ap, inl, inr, Some, None, ◌≤◌, ◌<◌, length, get_or, leb-true, ltb-true, lt-ltb, ◌+◌, Option, arith}
 use Rattle.std.specs.List.{list_all, list_any, position, position_or_len}
 use Rattle.std.specs.Str.{bytes_eq}
 use Rattle.std.specs.Prelude.{◌==◌, nat_le, nat_lt}
-use Rattle.std.proofs.lemmas.Bool.{and_parts, cases_Bool, false≢true, or_cases, or_parts}
+use Rattle.std.proofs.lemmas.Bool.{and_parts, cases_Bool, false≢true, or_parts}
 use Rattle.std.proofs.lemmas.Slice.Eq.{bytes_eq-Decides}
 use Rattle.std.proofs.lemmas.List.Quantifiers.{position-Some}
 use Rattle.std.proofs.lemmas.Option.{slice_get-get_or}
@@ -20,12 +20,6 @@ row_passes test (w ∷ ws) zero word all is =
 row_passes test (w ∷ ws) (suc row) word all is =
     row_passes test ws row word (and_parts (test w) (list_all test ws) all).1 is
 
--- a word that a test finds in a table stands there
-pub row_found : (table : List (List ℕ)) (word : List ℕ) → list_any (λ w. bytes_eq w word) table ≡ true → (row : ℕ) × IsRow table row word
-row_found [] word e = absurd (false≢true e)
-row_found (w ∷ ws) word e =
-    elim (or_cases (bytes_eq w word) (list_any (λ w. bytes_eq w word) ws) e) [ inl here ↦ (zero, rw ((bytes_eq-Decides w word).0 here) refl) | inr later ↦ (let found = row_found ws word later in (suc found.0, found.1)) ]
-
 -- and one that it doesn't find stands in no row
 pub no_row : (table : List (List ℕ)) (word : List ℕ) → list_any (λ w. bytes_eq w word) table ≡ false → (row : ℕ) → IsRow table row word → ⊥
 no_row [] word e row is = let none : None ≡ Some word = is in absurd cc
@@ -34,10 +28,6 @@ no_row (w ∷ ws) word e zero is =
     false≢true (sym (or_parts (bytes_eq w word) (list_any (λ w. bytes_eq w word) ws) e).0 ∙ (bytes_eq-Decides w word).1 cc)
 no_row (w ∷ ws) word e (suc row) is =
     no_row ws word (or_parts (bytes_eq w word) (list_any (λ w. bytes_eq w word) ws) e).1 row is
-
-pub row_or_none : (table : List (List ℕ)) (word : List ℕ) → ((row : ℕ) × IsRow table row word) ⊎ ((row : ℕ) → IsRow table row word → ⊥)
-row_or_none table word =
-    elim (cases_Bool (list_any (λ w. bytes_eq w word) table)) [ inl e ↦ inl (row_found table word e) | inr e ↦ inr (no_row table word e) ]
 
 -- ---- reserved words
 

@@ -1,15 +1,15 @@
 -- What the bytes of a word say of the lexeme that it spells.
-use Rattle.std.proofs.Common.{length, ◌≡◌, ◌≢◌, ◌⊎◌, ℕ, ◌≤◌, Bool, true, false, ◌&&◌, ◌||◌, not, List, [], ◌∷◌, ◌++◌, refl, sym, ◌∙◌, subst, inl, inr, arith, Some, le-leb, leb-true, leb, eqb-true, eq-eqb, true≢false}
+use Rattle.std.proofs.Common.{length, ◌≡◌, ◌≢◌, ◌⊎◌, ℕ, ◌≤◌, Bool, true, false, ◌&&◌, ◌||◌, not, List, [], ◌∷◌, ◌++◌, refl, sym, ◌∙◌, subst, inl, inr, arith, le-leb, leb-true, leb, eqb-true, eq-eqb, true≢false}
 use Rattle.std.specs.List.{list_all}
 use Rattle.std.specs.Prelude.{◌==◌}
 use Rattle.std.proofs.lemmas.Bool.{and_from, and_parts, false_from_ne_true, false≢true, not-true, or_cases, or_left, or_right}
 use Rattle.dbpl_scan.specs.BreaksOff.{TokenStands}
-use Rattle.dbpl_base.specs.Spelling.{AreDigits, AreHexadecimal, IsIdentifier, IsQuoted, IsRow, Spells}
-use Rattle.dbpl_base.specs.Words.{is_between, is_blank, is_digit, is_letter, is_octal, is_word_byte, reserved_words, signs}
+use Rattle.dbpl_base.specs.Spelling.{AreDigits, AreHexadecimal, IsIdentifier, IsQuoted, Spells}
+use Rattle.dbpl_base.specs.Words.{is_between, is_blank, is_digit, is_letter, is_octal, is_word_byte}
 use Rattle.dbpl_base.specs.declared.lexeme.Lexeme.{Lexeme}
 use Rattle.dbpl_base.specs.declared.lexeme.Lexeme.TheVariants.{Ident, Number, CharCode, Text, Reserved, Sign, Finish}
 use Rattle.dbpl_scan.specs.Fronts.{BeginsBy, is_quote}
-use Rattle.dbpl_scan.proofs.Rows.{begins_sign, is_sign_byte, reserved_is_identifier, row_or_none, sign_begins}
+use Rattle.dbpl_scan.proofs.Rows.{begins_sign, is_sign_byte, reserved_is_identifier, sign_begins}
 
 -- what the first byte of each lexeme's words is
 abbrev pub begins : Lexeme → ℕ → Bool
@@ -28,10 +28,6 @@ AreApart one other = (byte : ℕ) → one byte ≡ true → other byte ≡ true 
 pub begins_apart : (one other : ℕ → Bool) (word : List ℕ) → AreApart one other → BeginsBy one word → BeginsBy other word → ⊥
 begins_apart one other [] apart h k = h
 begins_apart one other (first ∷ others) apart h k = apart first h k
-
-pub begins-append : (test : ℕ → Bool) (front rest : List ℕ) → BeginsBy test front → BeginsBy test (front ++ rest)
-begins-append test [] rest h = absurd h
-begins-append test (first ∷ others) rest h = h
 
 -- a word at the front that isn't empty begins as the text does
 pub begins-split : (test kind : ℕ → Bool) (text word rest : List ℕ) → text ≡ word ++ rest → BeginsBy test text → BeginsBy kind word → BeginsBy test word
@@ -208,38 +204,7 @@ quote_word (Sign row) word h quote =
     absurd (begins_apart is_quote is_sign_byte word quote_no_sign quote (first_byte (Sign row) word h))
 quote_word Finish word h quote = absurd h
 
--- what begins with no letter, digit or quote is a sign
-pub sign_word : (lexeme : Lexeme) (word : List ℕ) → Spells lexeme word → BeginsBy is_sign_byte word → (row : ℕ) × IsRow signs row word
-sign_word (Ident name) word h sign =
-    absurd (begins_apart is_letter is_sign_byte word letter_no_sign (first_byte (Ident name) word h) sign)
-sign_word (Number n) word h sign =
-    absurd (begins_apart is_digit is_sign_byte word digit_no_sign (first_byte (Number n) word h) sign)
-sign_word (CharCode n) word h sign =
-    absurd (begins_apart is_digit is_sign_byte word digit_no_sign (first_byte (CharCode n) word h) sign)
-sign_word (Text text) word h sign =
-    absurd (begins_apart is_quote is_sign_byte word quote_no_sign (first_byte (Text text) word h) sign)
-sign_word (Reserved row) word h sign =
-    absurd (begins_apart is_letter is_sign_byte word letter_no_sign (first_byte (Reserved row) word h) sign)
-sign_word (Sign row) word h sign = (row, h)
-sign_word Finish word h sign = absurd h
-
-pub identifier_passes : (word : List ℕ) → IsIdentifier word → list_all is_word_byte word ≡ true
-identifier_passes [] h = absurd h
-identifier_passes (first ∷ others) h = and_from (is_word_byte first) _ (letter_is_word_byte first h.0) h.1
-
--- an identifier spells a lexeme: a reserved word, or itself
-pub identifier_spells : (word : List ℕ) → IsIdentifier word → (lexeme : Lexeme) × Spells lexeme word
-identifier_spells word h =
-    elim (row_or_none reserved_words word) [ inl found ↦ (Reserved found.0, found.1) | inr none ↦ (Ident word, (refl, h, none)) ]
-
 -- ---- the lexemes with one spelling each
-
--- identifiers, reserved words and signs are spelled in one way
-pub one_identifier : (name word other : List ℕ) → Spells (Ident name) word → Spells (Ident name) other → word ≡ other
-one_identifier name word other h k = h.0 ∙ sym k.0
-
-pub one_row : (table : List (List ℕ)) (row : ℕ) (word other : List ℕ) → IsRow table row word → IsRow table row other → word ≡ other
-one_row table row word other h k = let e : Some word ≡ Some other = sym h ∙ k in cc
 
 -- no token stands at the end of the text
 pub nothing_stands : (text : List ℕ) → text ≡ [] → TokenStands text → ⊥

@@ -74,9 +74,6 @@ gap_no_token place text gap word rest token is b =
 
 -- ---- what is read so far
 
-pub reads_nothing : (unit : ℕ) (text : List ℕ) → ReadsTo (start_of unit) text [] (start_of unit) text
-reads_nothing unit text = (refl, refl)
-
 reads_more : (tokens : List Token) (start : Place) (text : List ℕ) (there : Place) (rest gap word behind : List ℕ) (token : Token) → ReadsTo start text tokens there rest → BeginsWith IsGap there rest gap word behind token → ReadsTo start text (tokens ++ token ∷ []) (place_after there (gap ++ word)) behind
 reads_more [] start text there rest gap word behind token h b =
     let here : BeginsWith IsGap start text gap word behind token = subst (λ (p : Place). BeginsWith IsGap p text gap word behind token) (sym h.0) (subst (λ (t : List ℕ). BeginsWith IsGap there t gap word behind token) (sym h.1) b) in
