@@ -3,7 +3,7 @@
 use Rattle.std.proofs.Common.{◌≡◌, ℕ, ◌≤◌, Bool, true, false, List, ◌∷◌, ◌++◌, length, Result, Ok, Err}
 use Rattle.dbpl_base.specs.declared.lexeme.Lexeme.{Lexeme}
 use Rattle.dbpl_base.specs.declared.token.Token.{Token}
-use Rattle.dbpl_grammar.specs.Local.{Mark, Meets}
+use Rattle.dbpl_tree.specs.Marks.{Mark, Meets}
 use Rattle.dbpl_grammar.specs.Reading.{Parser, Refused, among, begins}
 
 -- how the tokens of a phrase begin, which lead to `rest`: with one of these lexemes, or the phrase has no token

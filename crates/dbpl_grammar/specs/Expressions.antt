@@ -4,8 +4,10 @@ use Rattle.std.specs.Prelude.{ℕ, zero, suc, Bool, true, false, List, [], ◌�
 use Rattle.dbpl_base.specs.declared.lexeme.Lexeme.{Lexeme}
 use Rattle.dbpl_base.specs.declared.lexeme.Lexeme.TheVariants as lexeme
 use Rattle.dbpl_base.specs.declared.place.Place.{Place}
-use Rattle.dbpl_grammar.specs.Lexemes.{a_char_code, a_number, a_text, ampersand, an_ident, colon, comma, equals, full_stop, greater, greater_equal, hash, left_brace, left_bracket, left_parenthesis, less, less_equal, minus, plus, right_brace, right_bracket, right_parenthesis, tilde, times, unequal, word_all, word_and, word_div, word_each, word_in, word_mod, word_not, word_of, word_or, word_some}
+use Rattle.dbpl_grammar.specs.Lexemes.{a_char_code, a_number, a_text, an_ident}
 use Rattle.dbpl_grammar.specs.Reading.{Parser, ◌<$>◌, ◌⊗◌, ◌⊗>◌, after, by_table, closed, either, here, leaf, many, nothing, optional, too_deep}
+use Rattle.dbpl_tree.specs.Operators.{adding_lexeme, multiplying_lexeme, not_lexeme, quantifier_lexeme, relation_lexeme, sign_lexeme}
+use Rattle.dbpl_tree.specs.Words.{ampersand, colon, comma, equal_sign, full_stop, greater_equal_sign, greater_sign, hash_sign, left_brace, left_bracket, left_parenthesis, less_equal_sign, less_sign, minus_sign, plus_sign, right_brace, right_bracket, right_parenthesis, tilde, times_sign, unequal_sign, word_all, word_and, word_div, word_each, word_in, word_mod, word_not, word_of, word_or, word_some}
 use Rattle.dbpl_tree.specs.declared.aggregate.Aggregate.{Aggregate}
 use Rattle.dbpl_tree.specs.declared.designator.ArgumentsOf.{ArgumentsOf}
 use Rattle.dbpl_tree.specs.declared.designator.DesignatorOf.{DesignatorOf}
@@ -42,39 +44,6 @@ use Rattle.dbpl_tree.specs.declared.term.MultipliedOf.{MultipliedOf}
 use Rattle.dbpl_tree.specs.declared.term.TermOf.{TermOf}
 
 -- ---- operators
-
-abbrev pub relation_lexeme : Relation → Lexeme
-relation_lexeme relations.Equal = equals
-relation_lexeme relations.Hash = hash
-relation_lexeme relations.Unequal = unequal
-relation_lexeme relations.Less = less
-relation_lexeme relations.LessEqual = less_equal
-relation_lexeme relations.Greater = greater
-relation_lexeme relations.GreaterEqual = greater_equal
-
-abbrev pub sign_lexeme : SignOperator → Lexeme
-sign_lexeme signs.Plus = plus
-sign_lexeme signs.Minus = minus
-
-abbrev pub adding_lexeme : AddingOperator → Lexeme
-adding_lexeme adding.Plus = plus
-adding_lexeme adding.Minus = minus
-adding_lexeme adding.Or = word_or
-
-abbrev pub multiplying_lexeme : MultiplyingOperator → Lexeme
-multiplying_lexeme multiplying.Times = times
-multiplying_lexeme multiplying.Div = word_div
-multiplying_lexeme multiplying.Mod = word_mod
-multiplying_lexeme multiplying.And = word_and
-multiplying_lexeme multiplying.Ampersand = ampersand
-
-abbrev pub not_lexeme : NotOperator → Lexeme
-not_lexeme negation.Not = word_not
-not_lexeme negation.Tilde = tilde
-
-abbrev pub quantifier_lexeme : Quantifier → Lexeme
-quantifier_lexeme quantifiers.Exists = word_some
-quantifier_lexeme quantifiers.ForAll = word_all
 
 unfoldable pub relation_of : Lexeme → Option Relation
 relation_of =
@@ -117,16 +86,16 @@ text_of _ = None
 -- ---- the lexemes with which a phrase may begin
 
 abbrev pub relations_first : List Lexeme
-relations_first = equals ∷ hash ∷ unequal ∷ less ∷ less_equal ∷ greater ∷ greater_equal ∷ []
+relations_first = equal_sign ∷ hash_sign ∷ unequal_sign ∷ less_sign ∷ less_equal_sign ∷ greater_sign ∷ greater_equal_sign ∷ []
 
 abbrev pub signs_first : List Lexeme
-signs_first = plus ∷ minus ∷ []
+signs_first = plus_sign ∷ minus_sign ∷ []
 
 abbrev pub adding_first : List Lexeme
-adding_first = plus ∷ minus ∷ word_or ∷ []
+adding_first = plus_sign ∷ minus_sign ∷ word_or ∷ []
 
 abbrev pub multiplying_first : List Lexeme
-multiplying_first = times ∷ word_div ∷ word_mod ∷ word_and ∷ ampersand ∷ []
+multiplying_first = times_sign ∷ word_div ∷ word_mod ∷ word_and ∷ ampersand ∷ []
 
 abbrev pub not_first : List Lexeme
 not_first = word_not ∷ tilde ∷ []
@@ -145,7 +114,7 @@ factor_first =
     a_number ∷ a_char_code ∷ a_text ∷ left_parenthesis ∷ word_not ∷ tilde ∷ word_some ∷ word_all ∷ an_ident ∷ []
 
 abbrev pub expr_first : List Lexeme
-expr_first = plus ∷ minus ∷ factor_first
+expr_first = plus_sign ∷ minus_sign ∷ factor_first
 
 abbrev pub element_first : List Lexeme
 element_first = word_each ∷ expr_first

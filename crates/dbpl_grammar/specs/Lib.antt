@@ -1,4 +1,6 @@
 pub mod Expressions
 pub mod Lexemes
-pub mod Local
 pub mod Reading
+pub mod Statements
+pub mod Types
+pub mod Units

@@ -1,5 +1,5 @@
 -- What a function reads at the front of a list of tokens, and how such functions are put together.
-use Rattle.std.specs.Prelude.{ℕ, zero, suc, Bool, false, ◌==◌, ◌&&◌, List, [], ◌∷◌, ◌++◌, length, Option, Some, None, Result, Ok, Err, if◌then◌else◌}
+use Rattle.std.specs.Prelude.{ℕ, zero, suc, Bool, true, false, ◌==◌, ◌&&◌, List, [], ◌∷◌, ◌++◌, length, Option, Some, None, Result, Ok, Err, if◌then◌else◌}
 use Rattle.std.specs.List.{list_any}
 use Rattle.dbpl_base.specs.declared.lexeme.Lexeme.{Lexeme}
 use Rattle.dbpl_base.specs.declared.lexeme.Lexeme.TheVariants.{Ident, Number, CharCode, Text, Reserved, Sign, Finish}
@@ -113,6 +113,10 @@ nothing tokens = Ok (None, tokens)
 
 abbrev pub optional : {A : Type 0} → List Lexeme → Parser A → Parser (Option A)
 optional set read = either set ((λ found. Some found) <$> read) nothing
+
+-- whether this word stands there
+abbrev pub flag : Lexeme → Parser Bool
+flag lexeme = either (lexeme ∷ []) (after lexeme (λ tokens. Ok (true, tokens))) (λ tokens. Ok (false, tokens))
 
 -- these, and those that follow in at most so many turns
 abbrev pub many_from : {A : Type 0} → List Lexeme → Parser A → ℕ → List A → Parser (List A)

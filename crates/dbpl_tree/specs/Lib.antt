@@ -1,1 +1,10 @@
+pub mod Declarations
+pub mod Expressions
+pub mod Factors
+pub mod Marks
+pub mod Names
+pub mod Operators
+pub mod Statements
+pub mod TypeTrees
+pub mod Units
 pub mod Words

@@ -33,7 +33,8 @@ pub use factor::Factor;
 pub use heading::{Heading, Params, RoutineWord, Section, Signature};
 pub use ident::{Ident, Idents, Qual};
 pub use operators::{
-    AddingOperator, ChangeOperator, MultiplyingOperator, NotOperator, Quantifier, Relation, SignOperator,
+    AddingOperator, ChangeOperator, MultiplyingOperator, NotOperator, Quantifier, Relation,
+    SignOperator,
 };
 pub use range::Range;
 pub use simple::{Added, AddedOf, Simple, SimpleOf};

@@ -12,7 +12,13 @@ pub enum Statement {
     /// `x . p ( a , b )`
     Call(Designator, Option<Arguments>),
     /// `IF e THEN s ELSIF .. ELSE t END`
-    If(Place, Expr, StatementsOf<Statement>, List<ElsifOf<Statement>>, Option<StatementsOf<Statement>>),
+    If(
+        Place,
+        Expr,
+        StatementsOf<Statement>,
+        List<ElsifOf<Statement>>,
+        Option<StatementsOf<Statement>>,
+    ),
     /// `CASE e OF case | .. ELSE t END`
     Case(Place, Expr, CaseOf<Statement>, List<CaseOf<Statement>>, Option<StatementsOf<Statement>>),
     /// `WHILE e DO s END`
