@@ -127,3 +127,31 @@ fixed_is Finish other fixed e = finish_is other (like_kinds Finish other e)
     finish_is (Text text) h = absurd (let e : 6 ≡ 3 = h.0 in omega arith)
     finish_is (Reserved r) h = absurd (let e : 6 ≡ 4 = h.0 in omega arith)
     finish_is (Sign r) h = absurd (let e : 6 ≡ 5 = h.0 in omega arith)
+
+-- a word or a sign
+abbrev pub is_word : Lexeme → Bool
+is_word (Ident name) = false
+is_word (Number n) = false
+is_word (CharCode n) = false
+is_word (Text text) = false
+is_word (Reserved row) = true
+is_word (Sign row) = true
+is_word Finish = false
+
+pub word_fixed : (lexeme : Lexeme) → is_word lexeme ≡ true → is_fixed lexeme ≡ true
+word_fixed (Ident name) e = e
+word_fixed (Number n) e = e
+word_fixed (CharCode n) e = e
+word_fixed (Text text) e = e
+word_fixed (Reserved row) e = refl
+word_fixed (Sign row) e = refl
+word_fixed Finish e = refl
+
+pub word_no_end : (lexeme : Lexeme) → is_word lexeme ≡ true → like Finish lexeme ≡ false
+word_no_end (Ident name) e = refl
+word_no_end (Number n) e = refl
+word_no_end (CharCode n) e = refl
+word_no_end (Text text) e = refl
+word_no_end (Reserved row) e = refl
+word_no_end (Sign row) e = refl
+word_no_end Finish e = absurd (true≢false (sym e))

@@ -1,4 +1,5 @@
 pub mod Expressions
+pub mod Laws
 pub mod Lexemes
 pub mod Reading
 pub mod Statements

@@ -14,3 +14,4 @@ pub mod Strings
 pub mod Tables
 pub mod Takes
 pub mod Words
+pub mod UnitLaw

@@ -5,3 +5,4 @@ pub mod Program
 pub mod Statements
 pub mod Steps
 pub mod Tokens
+pub mod Units

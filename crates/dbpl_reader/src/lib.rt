@@ -12,7 +12,7 @@ mod statements;
 mod tests;
 mod tokens;
 
-pub use module::{one_module, read};
+pub use module::{one_module, one_spelling, read};
 pub use program::Program;
 pub use read_err::ReadErr;
 pub use statement::Statement;

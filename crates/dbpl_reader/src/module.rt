@@ -1,15 +1,18 @@
 //! A module as a whole: its heading, its body and its end.
 ghost use Rattle.std.specs.Prelude.{◌≡◌, ◌≢◌, ℕ, List, IfOk, IfErr};
 ghost use Rattle.std.specs.Option.{option_copied, option_map};
-ghost use Rattle.dbpl_reader.specs.Program.{SpellsProgram};
+ghost use Rattle.dbpl_base.specs.declared.place.Place.{Place};
+ghost use Rattle.dbpl_reader.specs.Program.{SpellsProgram, spell};
+ghost use Rattle.dbpl_reader.specs.Units.{unit_of};
+ghost use Rattle.dbpl_tree.specs.Units.{spell as whole_spell};
 ghost use Rattle.dbpl_reader.specs.declared.program.Program.{Program};
 ghost use Rattle.dbpl_reader.specs.Gives.{Gives};
 ghost use Rattle.dbpl_reader.specs.Modules as spec;
 
-use crate::{Program, ReadErr};
 use crate::names::module_name;
 use crate::statements::statements;
 use crate::tokens::{after_blanks, sign, word};
+use crate::{Program, ReadErr};
 use dbpl_base::name_of;
 use std::alloc::Global;
 
@@ -81,4 +84,10 @@ pub fn read(alloc: Global, text: &[u8]) -> Result<Program, ReadErr>
 /// A law: two modules that one text spells are equal.
 pub fn one_module()
     ensures { (text : List ℕ) (first second : Program) → SpellsProgram 0 text first → SpellsProgram 0 text second → first ≡ second }
+{}
+
+/// A law: as a tree of the whole grammar, such a module has the same spelling. The places of that tree are free, since
+/// the small one keeps none.
+pub fn one_spelling()
+    ensures { (place : Place) (program : Program) → whole_spell (unit_of place program) ≡ spell program }
 {}

@@ -4,8 +4,8 @@ ghost use Rattle.std.specs.Option.{option_map};
 ghost use Rattle.dbpl_reader.specs.Statements as spec;
 ghost use Rattle.dbpl_reader.specs.Gives.{Gives};
 
-use crate::{ReadErr, Statement};
 use crate::tokens::{quoted, sign, word};
+use crate::{ReadErr, Statement};
 use dbpl_base::{List, name_of};
 use std::alloc::Global;
 

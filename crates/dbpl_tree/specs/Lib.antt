@@ -1,4 +1,5 @@
 pub mod Declarations
+pub mod Depths
 pub mod Expressions
 pub mod Factors
 pub mod Marks
@@ -6,5 +7,6 @@ pub mod Names
 pub mod Operators
 pub mod Statements
 pub mod TypeTrees
+pub mod UnitDepths
 pub mod Units
 pub mod Words

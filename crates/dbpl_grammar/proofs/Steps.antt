@@ -1,1 +1,0 @@
--- The ways in which reading functions are put together keep the law.

@@ -1,0 +1,7 @@
+pub mod Depths
+pub mod Examples
+pub mod Levels
+pub mod Lexemes
+pub mod Mapped
+pub mod StatementLevels
+pub mod UnitExamples
