@@ -1,7 +1,6 @@
 -- What is read at a depth, by the depth below it.
-use Rattle.std.proofs.Common.{◌≡◌, ℕ, zero, suc, ◌-◌, ◌<◌, ◌≤◌, List, refl, ap, arith}
-use Rattle.dbpl_base.specs.declared.token.Token.{Token}
-use Rattle.dbpl_grammar.specs.Expressions.{Inner, at_depth, expr, expr_first, factor, ident_first, negated, not_first, range}
+use Rattle.std.proofs.Common.{◌≡◌, ℕ, suc, ◌-◌, ◌<◌, refl, arith}
+use Rattle.dbpl_grammar.specs.Expressions.{at_depth, expr, expr_first, factor, ident_first, negated, not_first, range}
 use Rattle.dbpl_grammar.specs.Reading.{too_deep}
 
 -- no phrase may stand there

@@ -1,8 +1,8 @@
 -- A loop that reads one part after another, beside the same by a count of turns.
-use Rattle.std.proofs.Common.{◌≡◌, ℕ, suc, true, false, ◌+◌, ◌-◌, ◌<◌, ◌≤◌, ◌∙◌, List, [], ◌∷◌, ◌++◌, length, Result, Ok, Err, Bool, ap, sym, refl, arith}
+use Rattle.std.proofs.Common.{◌≡◌, ℕ, suc, true, false, ◌+◌, ◌-◌, ◌<◌, ◌≤◌, ◌∙◌, List, [], ◌∷◌, ◌++◌, length, Result, Ok, Err, refl, arith}
 use Rattle.dbpl_base.specs.declared.lexeme.Lexeme.{Lexeme}
 use Rattle.dbpl_base.specs.declared.token.Token.{Token}
-use Rattle.dbpl_grammar.specs.Reading.{Parser, Refused, begins, many, many_from, wrong, ◌>>=◌}
+use Rattle.dbpl_grammar.specs.Reading.{Parser, Refused, begins, many, many_from, wrong}
 
 one_turn : (n turn : ℕ) → turn < n → n - turn ≡ suc (n - (turn + 1))
 one_turn n turn below = omega (arith, below)

@@ -1,9 +1,11 @@
 -- What the calls of this crate answer: a tree and the position behind it, or a refusal by a place.
-use Rattle.std.specs.Prelude.{◌≡◌, ◌≢◌, ℕ, List, [], ◌∷◌, drop, Result, Ok, Err}
+use Rattle.std.specs.Prelude.{◌≡◌, ◌≢◌, ◌⊎◌, ℕ, List, [], ◌∷◌, drop, Result, Ok, Err}
 use Rattle.dbpl_base.specs.declared.place.Place.{Place}
 use Rattle.dbpl_base.specs.declared.token.Token.{Token}
+use Rattle.dbpl_grammar.specs.Laws.{NoPhraseBegins}
 use Rattle.dbpl_grammar.specs.Reading.{Reason, Refused}
 use Rattle.dbpl_grammar.specs.Reading as reading
+use Rattle.dbpl_tree.specs.Marks.{Mark}
 use Rattle.dbpl_parse_expr.specs.declared.parse_err.ParseErr.{ParseErr}
 use Rattle.dbpl_parse_expr.specs.declared.parse_err.ParseErr.TheVariants as errors
 use Rattle.dbpl_parse_expr.specs.declared.read_err.ReadErr.{ReadErr}
@@ -30,3 +32,15 @@ abbrev pub Answers : {A : Type 0} → List Token → Result (A × ℕ) ParseErr 
 Answers tokens (Ok found) read = read ≡ Ok (found.0, drop found.1 tokens)
 Answers tokens (Err error) read =
     error ≢ errors.Memory → (refused : Refused) × (read ≡ Err refused) × (error ≡ error_of refused.reason refused.rest)
+
+-- what was read, or the refusal by its place
+abbrev pub answered : {A : Type 0} → List Token → Result (A × ℕ) ReadErr → Result (A × ℕ) ParseErr
+answered tokens (Ok found) = Ok found
+answered tokens (Err error) = Err (placed tokens error)
+
+-- The place is that of a token such that no such phrase, of depth at most the limit, begins with the tokens up to and with it.
+pub record RefusedAt {A : Type 0} (marks : A → List Mark) (depth : A → ℕ) (limit : ℕ) (tokens : List Token) (error : ParseErr) : Type 0 where
+  pub rest : List Token
+  pub some : rest ≢ []
+  pub none : NoPhraseBegins marks depth limit tokens rest
+  pub placed : (error ≡ errors.Syntax (place_of rest)) ⊎ (error ≡ errors.Deep (place_of rest))

@@ -1,5 +1,5 @@
 -- A depth is zero, or one more than that of the phrases inside.
-use Rattle.std.proofs.Common.{◌≡◌, rules, arith}
+use Rattle.std.proofs.Common.{rules, arith}
 use Rattle.dbpl_parse_expr.proofs.Depth.{deeper, shallow}
 use Rattle.dbpl_parse_expr.proofs.phrases.+phrases.Goals as goal
 
