@@ -97,10 +97,10 @@ word_of-pos n lt = omega arith
 pub byte_of-pos : (n : ℕ) → n < 256 → byte_of (pos n) ≡ n
 byte_of-pos n lt = omega arith
 
-at_most : (a b : ℕ) → int_le (pos a) (pos b) ≡ true → a ≤ b
+pub at_most : (a b : ℕ) → int_le (pos a) (pos b) ≡ true → a ≤ b
 at_most a b h = grind (arith, ints)
 
-at_least : (a b : ℕ) → int_le (negsuc b) (negsuc a) ≡ true → a ≤ b
+pub at_least : (a b : ℕ) → int_le (negsuc b) (negsuc a) ≡ true → a ≤ b
 at_least a b h = grind (arith, ints)
 
 not_negative : (b n : ℕ) → int_le (pos b) (negsuc n) ≡ true → ⊥

@@ -34,7 +34,7 @@ use Rattle.dbpl_codec.specs.ValueSpelling.{bytes_level, bytes_of, fits_level, va
 
 -- ---- what a value of a sort is
 
-number_is :
+pub number_is :
     (range : Range) (v : Value) (o : Value-F Value) → o ≡ out-Value v → is_number (Some range) o ≡ true →
     (z : ℤ) × (value.Num z ≡ v) × (is_in range z ≡ true)
 number_is range v (values.Num z) e h = (z, sym (value.rolls-Num z) ∙ ap roll-Value e ∙ roll-out-Value v, h)
@@ -42,7 +42,7 @@ number_is range v (values.Arr parts) e h = cc
 number_is range v (values.Rec parts) e h = cc
 number_is range v (values.Rel parts) e h = cc
 
-array_is :
+pub array_is :
     (count : ℕ) (test : Value → Bool) (v : Value) (o : Value-F Value) → o ≡ out-Value v → is_array count test o ≡ true →
     (parts : List Value) × (value.Arr parts ≡ v) × ((nat_eq (length parts) count && list_all test parts) ≡ true)
 array_is count test v (values.Num z) e h = cc
@@ -77,7 +77,7 @@ checked-passes :
     (range : Option Range) (x : Value × List ℕ) → is_number range (out-Value x.0) ≡ true → checked range x ≡ Some x
 checked-passes range x test = rw test refl
 
-number_of-Num : (z : ℤ) → number_of (value.Num z) ≡ z
+pub number_of-Num : (z : ℤ) → number_of (value.Num z) ≡ z
 number_of-Num z = ap (λ (o : Value-F Value). number_level o) (value.outs-Num z)
 
 in_range : (range : Range) (z : ℤ) → is_in range z ≡ true → is_number (Some range) (out-Value (value.Num z)) ≡ true
@@ -154,7 +154,7 @@ host_has None inner z bounds h = cc
 host_has (Some all) inner z bounds h = in_wider all inner z bounds h
 
 -- a number of a subrange is one of the host
-host_value :
+pub host_value :
     (host : DbType) (inner : Range) (z : ℤ) → is_host_level (out-DbType host) ≡ true →
     option_map_or (λ (all : Range). is_in all inner.least && is_in all inner.greatest) (range_of host) false ≡ true →
     is_in inner z ≡ true → is_of host (value.Num z) ≡ true

@@ -1,5 +1,8 @@
+pub mod Growing
 pub mod KeyBytes
 pub mod TypeBytes
+pub mod TypeKinds
+pub mod FieldNames
 pub mod ValueBytes
 pub mod Rising
 pub mod ReadingSteps
@@ -7,5 +10,12 @@ pub mod ByteLaws
 pub mod ListLaws
 pub mod ValueLaws
 pub mod CompleteLaws
+pub mod TypeReadLaws
+pub mod TypeSound
 pub mod WholeLaws
+pub mod TypeWhole
+pub mod Scalars
 pub mod SizeLaw
+pub mod ByteOrder
+pub mod ComponentOrder
+pub mod KeyByteOrder

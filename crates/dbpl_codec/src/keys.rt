@@ -1,6 +1,7 @@
 //! Keys are written so that their bytes compare as they do.
-ghost use Rattle.std.specs.Prelude.{◌≡◌, ◌++◌, OnOk};
+ghost use Rattle.std.specs.Prelude.{◌≡◌, ◌++◌, OnErr, OnOk};
 ghost use Rattle.std.specs.List.{flat_map};
+ghost use Rattle.dbpl_codec.specs.Growth.{Begins};
 ghost use Rattle.dbpl_codec.specs.KeySpelling.{component_bytes, key_bytes_of, type_named as type_of_name};
 
 use crate::numbers::{append_byte, append_key_word, low_word};
@@ -8,8 +9,24 @@ use dbpl_base::{Memory, Name};
 use dbpl_value::{DbType, Field, Value, element_of, fields_of, keys_of, number_of, parts_of};
 
 /// Appends the key bytes of a key in a relation of type `t`, or of its first components.
+#[tactic(auto, using(crate::proofs::Growing::grows))]
 pub fn key_bytes(t: &DbType, key: &[Value], out: &mut Vec<u8>) -> Result<(), Memory>
     ensures ok { OnOk result (out.new.items ≡ out.old.items ++ key_bytes_of t.now key.now) }
+    ensures err { OnErr result (out.new.items ≡ out.old.items) }
+{
+    let before = out.len();
+    let written = append_key(t, key, out);
+    if written.is_err() {
+        out.truncate(before);
+    }
+    written
+}
+
+/// The same, but where memory runs out a part of the key bytes may have been appended.
+#[tactic(auto, using(crate::proofs::Growing::grows))]
+fn append_key(t: &DbType, key: &[Value], out: &mut Vec<u8>) -> Result<(), Memory>
+    ensures ok { OnOk result (out.new.items ≡ out.old.items ++ key_bytes_of t.now key.now) }
+    ensures begins { Begins out.new.items out.old.items }
 {
     let keys = keys_of(t);
     let fields = fields_of(element_of(t));
@@ -32,8 +49,10 @@ fn type_named<'a>(t: &'a DbType, fields: &'a [Field], name: &Name) -> &'a DbType
 }
 
 #[cycle(components)]
+#[tactic(auto, using(crate::proofs::Growing::grows))]
 fn component(t: &DbType, v: &Value, out: &mut Vec<u8>) -> Result<(), Memory>
     ensures ok { OnOk result (out.new.items ≡ out.old.items ++ component_bytes t.now v.now) }
+    ensures begins { Begins out.new.items out.old.items }
 {
     match t {
         DbType::Int => append_key_word(low_word(number_of(v)).wrapping_add(1 << 31), out),
@@ -46,8 +65,10 @@ fn component(t: &DbType, v: &Value, out: &mut Vec<u8>) -> Result<(), Memory>
 }
 
 #[cycle(components)]
+#[tactic(auto, using(crate::proofs::Growing::grows))]
 fn characters(t: &DbType, parts: &[Value], out: &mut Vec<u8>) -> Result<(), Memory>
     ensures ok { OnOk result (out.new.items ≡ out.old.items ++ flat_map (component_bytes t.now) parts.now) }
+    ensures begins { Begins out.new.items out.old.items }
 {
     for part in parts {
         component(t, part, out)?;

@@ -1,17 +1,36 @@
 //! Descriptors are written as their spelling says.
-ghost use Rattle.std.specs.Prelude.{◌≡◌, ◌++◌, OnOk};
-ghost use Rattle.std.specs.List.{flat_map};
-ghost use Rattle.dbpl_codec.specs.Numbers.{name_bytes};
-ghost use Rattle.dbpl_codec.specs.TypeSpelling.{type_bytes};
+ghost use Rattle.std.specs.Prelude.{◌≡◌, ◌++◌, ◌&&◌, IsTrue, OnErr, OnOk};
+ghost use Rattle.std.specs.List.{flat_map, list_all};
+ghost use Rattle.dbpl_codec.specs.Growth.{Begins};
+ghost use Rattle.dbpl_codec.specs.Numbers.{count_fits, name_bytes};
+ghost use Rattle.dbpl_codec.specs.TypeSpelling.{type_bytes, type_fits};
 
 use crate::numbers::{append_count, append_kind, append_long, append_name, append_names};
 use dbpl_base::Memory;
 use dbpl_value::{DbType, Field};
 
 /// Appends the spelling of a descriptor.
-#[cycle(writes)]
+#[tactic(auto, using(crate::proofs::Growing::grows))]
 pub fn write_type(t: &DbType, out: &mut Vec<u8>) -> Result<(), Memory>
     ensures ok { OnOk result (out.new.items ≡ out.old.items ++ type_bytes t.now) }
+    ensures fits { OnOk result (IsTrue (type_fits t.now)) }
+    ensures err { OnErr result (out.new.items ≡ out.old.items) }
+{
+    let before = out.len();
+    let written = append_type(t, out);
+    if written.is_err() {
+        out.truncate(before);
+    }
+    written
+}
+
+/// The same, but where memory runs out a part of the spelling may have been appended.
+#[cycle(writes)]
+#[tactic(auto, using(crate::proofs::Growing::grows))]
+fn append_type(t: &DbType, out: &mut Vec<u8>) -> Result<(), Memory>
+    ensures ok { OnOk result (out.new.items ≡ out.old.items ++ type_bytes t.now) }
+    ensures fits { OnOk result (IsTrue (type_fits t.now)) }
+    ensures begins { Begins out.new.items out.old.items }
 {
     match t {
         DbType::Int => append_kind(1, out),
@@ -24,36 +43,39 @@ pub fn write_type(t: &DbType, out: &mut Vec<u8>) -> Result<(), Memory>
         }
         DbType::Sub(host, least, greatest) => {
             append_kind(6, out)?;
-            write_type(host.get(), out)?;
+            append_type(host.get(), out)?;
             append_long(*least, out)?;
             append_long(*greatest, out)
         }
         DbType::Arr(index, element) => {
             append_kind(7, out)?;
-            write_type(index.get(), out)?;
-            write_type(element.get(), out)
+            append_type(index.get(), out)?;
+            append_type(element.get(), out)
         }
         DbType::Rec(fields) => {
             append_kind(8, out)?;
             append_count(fields.as_slice(), out)?;
-            write_fields(fields.as_slice(), out)
+            append_fields(fields.as_slice(), out)
         }
         DbType::Rel(keys, record) => {
             append_kind(9, out)?;
             append_names(keys.as_slice(), out)?;
-            write_type(record.get(), out)
+            append_type(record.get(), out)
         }
     }
 }
 
 #[cycle(writes)]
-fn write_fields(fields: &[Field], out: &mut Vec<u8>) -> Result<(), Memory>
+#[tactic(auto, using(crate::proofs::Growing::grows))]
+fn append_fields(fields: &[Field], out: &mut Vec<u8>) -> Result<(), Memory>
     ensures ok { OnOk result (out.new.items
         ≡ out.old.items ++ flat_map (λ field. name_bytes field.name ++ type_bytes field.kind) fields.now) }
+    ensures fits { OnOk result (IsTrue (list_all (λ field. count_fits field.name && type_fits field.kind) fields.now)) }
+    ensures begins { Begins out.new.items out.old.items }
 {
     for field in fields {
         append_name(&field.name, out)?;
-        write_type(&field.kind, out)?;
+        append_type(&field.kind, out)?;
     }
     Ok(())
 }

@@ -7,6 +7,7 @@ use Rattle.dbpl_base.specs.declared.token.Token.{Token}
 use Rattle.dbpl_tree.specs.Depths.{option_depth}
 use Rattle.dbpl_tree.specs.Marks.{Mark, Meets, option_marks}
 use Rattle.dbpl_grammar.specs.Reading.{Parser, Refused, ◌>>=◌, ◌<$>◌, ◌⊗◌, ◌⊗>◌, after, among, begins, closed, either, flag, like, many, many_from, nothing, optional, too_deep}
+use Rattle.dbpl_grammar.proofs.PlacedLaw.{places_either, places_made, places_never, places_none, places_option}
 use Rattle.dbpl_grammar.proofs.OpenLaw.{complete_made, complete_nothing, err, ok_isnt, opens_deep, opens_either, opens_never, opens_optional}
 use Rattle.dbpl_grammar.proofs.JoinLaw.{ends_before, ends_less, may_follow}
 use Rattle.dbpl_grammar.proofs.Law.{BeginsBy, Completed, Ends, Law, Wrote, by_nothing, by_token}
@@ -29,12 +30,13 @@ law_wider {first = first} {more = more} {empty = empty} first' more' h k law = r
   steady = law.steady;
   some = law.some;
   opens = law.opens;
+  places = law.places;
 }
 
 -- ---- marks and depths said otherwise
 
 pub law_same : {A : Type 0} {w : A → List Mark} {n : A → ℕ} {limit : ℕ} {first more : List Lexeme} {empty : Bool} {Is : A → Type 0} {read : Parser A} (w' : A → List Mark) (n' : A → ℕ) → ((x : A) → w' x ≡ w x) → ((x : A) → n' x ≡ n x) → Law w n limit first more empty Is read → Law w' n' limit first more empty Is read
-law_same {A = A} {w = w} {limit = limit} {Is = Is} w' n' marks depth law = record {
+law_same {A = A} {w = w} {n = n} {limit = limit} {Is = Is} w' n' marks depth law = record {
   begins_by = λ found tokens rest is fits meets. law.begins_by found tokens rest is (subst (λ (k : ℕ). k ≤ limit) (depth found) fits) (subst (λ (ms : List Mark). Meets tokens ms rest) (marks found) meets);
   reads = λ found tokens rest is fits meets ends. law.reads found tokens rest is (subst (λ (k : ℕ). k ≤ limit) (depth found) fits) (subst (λ (ms : List Mark). Meets tokens ms rest) (marks found) meets) ends;
   wrote = λ found tokens rest e. (let one = law.wrote found tokens rest e in record {
@@ -45,6 +47,7 @@ law_same {A = A} {w = w} {limit = limit} {Is = Is} w' n' marks depth law = recor
   steady = law.steady;
   some = λ place. complete_made w Is w' Is (λ (x : A). x) (λ x is. marks x) (λ x is. is) place [] (law.some place);
   opens = λ tokens front refused place e split at. complete_made w Is w' Is (λ (x : A). x) (λ x is. marks x) (λ x is. is) place front (law.opens tokens front refused place e split at);
+  places = places_made w n Is w' n' Is limit (λ (x : A). x) (λ x is. marks x) (λ x is. depth x) (λ x is. is) (λ y is. (y, is, refl)) law.places;
 }
 
 -- ---- one or the other
@@ -97,17 +100,19 @@ module _ {A : Type 0} {w : A → List Mark} {n : A → ℕ} {limit : ℕ} {first
     steady = steady_either first read other law.steady law'.steady;
     some = λ place. complete_made w Is w (λ (x : A). Is x ⊎ Is' x) (λ (x : A). x) (λ x is. refl) (λ x is. inl is) place [] (law.some place);
     opens = opens_either w Is Is' first read other law.opens law'.opens;
+    places = places_either w n limit Is Is' law.places law'.places;
   }
 
 -- the trees that satisfy the one or the other are all that the law asks for
 pub law_all : {A : Type 0} {w : A → List Mark} {n : A → ℕ} {limit : ℕ} {first more : List Lexeme} {empty : Bool} {Is : A → Type 0} {read : Parser A} (Is' : A → Type 0) → ((x : A) → Is' x → Is x) → ((x : A) → Is x → Is' x) → Law w n limit first more empty Is read → Law w n limit first more empty Is' read
-law_all {A = A} {w = w} {Is = Is} Is' to back law = record {
+law_all {A = A} {w = w} {n = n} {limit = limit} {Is = Is} Is' to back law = record {
   begins_by = λ found tokens rest is fits meets. law.begins_by found tokens rest (to found is) fits meets;
   reads = λ found tokens rest is fits meets ends. law.reads found tokens rest (to found is) fits meets ends;
   wrote = λ found tokens rest e. (let one = law.wrote found tokens rest e in record { is = back found one.is; fits = one.fits; meets = one.meets });
   steady = law.steady;
   some = λ place. complete_made w Is w Is' (λ (x : A). x) (λ x is. refl) back place [] (law.some place);
   opens = λ tokens front refused place e split at. complete_made w Is w Is' (λ (x : A). x) (λ x is. refl) back place front (law.opens tokens front refused place e split at);
+  places = places_made w n Is w n Is' limit (λ (x : A). x) (λ x is. refl) (λ x is. refl) back (λ y is. (y, to y is, refl)) law.places;
 }
 
 -- ---- a phrase or nothing
@@ -161,6 +166,7 @@ module _ {A : Type 0} {w : A → List Mark} {n : A → ℕ} {limit : ℕ} {first
     steady = steady_either first ((λ (x : A). Some x) <$> read) nothing (steady_map (λ (x : A). Some x) read law.steady) (λ tokens. steady_pure None tokens);
     some = λ place. complete_nothing (option_marks w) (IfThere Is) place None tt refl;
     opens = opens_optional w Is (IfThere Is) first read (λ x is. is) law.opens;
+    places = places_option w n limit Is (IfThere Is) (λ x is. is) (λ x is. is) law.places;
   }
 
 pub law_nothing : {A : Type 0} (w : A → List Mark) (n : A → ℕ) (limit : ℕ) → Law (option_marks w) (option_depth n) limit [] [] true (λ (x : Option A). x ≡ None) nothing
@@ -172,6 +178,7 @@ law_nothing {A = A} w n limit = record {
   steady = λ tokens. steady_pure None tokens;
   some = λ place. complete_nothing (option_marks w) (λ (x : Option A). x ≡ None) place None refl refl;
   opens = opens_never (option_marks w) (λ (x : Option A). x ≡ None) nothing (λ tokens refused e. ok_isnt {A = Option A × List Token} (None, tokens) refused e);
+  places = places_none w n limit;
 }
 
 -- ---- where none may stand any more
@@ -184,6 +191,7 @@ law_deep {A = A} w n limit first more set empty Is ready none = record {
   steady = steady_either set (λ tokens. Err (record { reason = Rattle.dbpl_grammar.specs.Reading.Deep; rest = tokens })) (λ tokens. Err (record { reason = Rattle.dbpl_grammar.specs.Reading.Wrong; rest = tokens })) (λ tokens. steady_refused Rattle.dbpl_grammar.specs.Reading.Deep tokens) (λ tokens. steady_refused Rattle.dbpl_grammar.specs.Reading.Wrong tokens);
   some = ready;
   opens = opens_deep w Is set ready;
+  places = places_never w n limit Is none;
 }
   where
     by_begins : (b : Bool) (found : A) (tokens rest : List Token) → (if b then err {A = A × List Token} (record { reason = Rattle.dbpl_grammar.specs.Reading.Deep; rest = tokens }) else Err (record { reason = Rattle.dbpl_grammar.specs.Reading.Wrong; rest = tokens })) ≡ Ok (found, rest) → Wrote w n limit Is found tokens rest
@@ -204,4 +212,5 @@ law_counted law = record {
   steady = law.steady;
   some = law.some;
   opens = law.opens;
+  places = λ found tokens rest is fits h. (let below = fits in let p = law.places found tokens rest is (omega arith) h in let inside = p.fits in record { tree = p.tree; is = p.is; fits = omega arith; meets = p.meets; same = p.same });
 }

@@ -7,7 +7,7 @@ use Rattle.dbpl_tree.proofs.Levels.{aggregate_depth-out, aggregate_marks-out, fa
 use Rattle.dbpl_tree.specs.Depths.{arguments_depth, depths, designator_depth, element_depth, expr_depth, factor_depth, factor_depth_level, greatest, option_depth, range_depth, range_depth_level}
 use Rattle.dbpl_tree.specs.Expressions.{arguments_marks, designator_marks, expr_marks}
 use Rattle.dbpl_tree.specs.Factors.{factor_level, factor_marks, range_marks, spelling}
-use Rattle.dbpl_tree.specs.Marks.{Mark, option_marks}
+use Rattle.dbpl_tree.specs.Marks.{Mark, lexemes_in, option_marks}
 use Rattle.dbpl_tree.specs.Words.{left_brace, left_parenthesis, right_parenthesis, word_in}
 use Rattle.dbpl_tree.specs.declared.aggregate.Aggregate.{Aggregate}
 use Rattle.dbpl_tree.specs.declared.designator.ArgumentsOf.{ArgumentsOf}
@@ -29,7 +29,7 @@ use Rattle.dbpl_grammar.proofs.Ready.{ready_expr, ready_negated, ready_range}
 use Rattle.dbpl_grammar.proofs.ChoiceLaw.{law_all, law_counted, law_deep, law_either, law_same, law_wider}
 use Rattle.dbpl_grammar.proofs.Every.{Every, both, maybe, variant}
 use Rattle.dbpl_grammar.proofs.ExprLaw.{expr_more, factor_more, law_arguments, law_designator, law_expr_inside}
-use Rattle.dbpl_grammar.proofs.InnerLaw.{InnerLaw, are_as, as_designator, braced_marks, law_braced, negated_depth, negated_marks, qual_marks_in, qual_shallow, range_more, second_as}
+use Rattle.dbpl_grammar.proofs.InnerLaw.{InnerLaw, are_as, as_designator, braced_marks, law_braced, negated_depth, negated_marks, qual_marks_in, qual_shallow, range_more, same_qual, second_as}
 use Rattle.dbpl_grammar.proofs.JoinLaw.{law_closed, law_made, law_then}
 use Rattle.dbpl_grammar.proofs.Law.{Law}
 use Rattle.dbpl_grammar.proofs.NameLaw.{char_code_is, law_ident, number_is, text_is}
@@ -71,6 +71,10 @@ IsQuantified y =
 abbrev pub MayStand : DesignatorOf Factor → Behind → Type 0
 MayStand found (Braced xs) = is_qual found ≡ true
 MayStand found (Called arguments) = Unit {0}
+
+pub keep_standing : (one other : DesignatorOf Factor) (x : Behind) → lexemes_in (designator_marks factor_marks other) ≡ lexemes_in (designator_marks factor_marks one) → MayStand one x → MayStand other x
+keep_standing one other (Braced xs) same is = same_qual one other same is
+keep_standing one other (Called arguments) same is = tt
 
 abbrev pub IsNamed : Factor → Type 0
 IsNamed y = (x : DesignatorOf Factor × Behind) × (Unit {0} × MayStand x.0 x.1) × (named_made x ≡ y)
@@ -152,7 +156,7 @@ module _ {limit : ℕ} {inner : Inner} (laws : InnerLaw limit inner) where
   pub law_named : Law factor_marks factor_depth limit ident_first factor_more false IsNamed (named inner)
   unfolding named behind
   law_named =
-      law_made named_made factor_marks factor_depth IsNamed (law_then (law_designator factor_marks factor_depth laws.expr) (λ found is. law_behind found (is_qual found) refl) refl) (λ x is. named_marks x.0 x.1 is.1) (λ x is. named_depth x.0 x.1 is.1) (λ x is. (x, is, refl)) (λ y is. is)
+      law_made named_made factor_marks factor_depth IsNamed (law_then (law_designator factor_marks factor_depth laws.expr) (λ found is. law_behind found (is_qual found) refl) refl keep_standing) (λ x is. named_marks x.0 x.1 is.1) (λ x is. named_depth x.0 x.1 is.1) (λ x is. (x, is, refl)) (λ y is. is)
 
   -- ---- the others
 

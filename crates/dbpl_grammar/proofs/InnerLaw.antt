@@ -1,12 +1,12 @@
 -- The law of EACH, elements, aggregates and ranges, over the phrases that count as one deeper.
-use Rattle.std.proofs.Common.{◌≡◌, ℕ, suc, max, true, false, ◌⊎◌, inl, inr, List, [], ◌∷◌, ◌++◌, flat_map, append-nil, Option, Some, None, refl, sym, ap, ◌∙◌, arith, true≢false}
+use Rattle.std.proofs.Common.{◌≡◌, ℕ, suc, max, true, false, ◌⊎◌, inl, inr, List, [], ◌∷◌, ◌++◌, flat_map, append-nil, Option, Some, None, refl, sym, ap, ◌∙◌, arith, true≢false, drop}
 use Rattle.dbpl_base.specs.declared.lexeme.Lexeme.{Lexeme}
 use Rattle.dbpl_base.specs.declared.place.Place.{Place}
 use Rattle.dbpl_tree.proofs.Levels.{aggregate_depth-out, aggregate_marks-out, each_depth-out, each_marks-out, element_depth-out, element_marks-out}
 use Rattle.dbpl_tree.specs.Depths.{aggregate_depth, depths, designator_depth, each_depth, element_depth, element_depth_level, expr_depth, factor_depth, greatest, option_depth, part_depth, range_depth}
 use Rattle.dbpl_tree.specs.Expressions.{designator_marks, expr_marks, part_marks}
 use Rattle.dbpl_tree.specs.Factors.{aggregate_marks, each_marks, element_level, element_marks, factor_marks, range_marks, spelling}
-use Rattle.dbpl_tree.specs.Marks.{Mark, Of, Before, between_marks, further_marks, option_marks}
+use Rattle.dbpl_tree.specs.Marks.{Before, Mark, Of, between_marks, further_marks, lexemes_in, option_marks}
 use Rattle.dbpl_tree.specs.Names.{ident_marks, qual_marks}
 use Rattle.dbpl_tree.specs.Operators.{not_lexeme}
 use Rattle.dbpl_tree.specs.Words.{colon, comma, full_stop, left_brace, left_bracket, right_brace, word_each, word_in, word_of}
@@ -25,7 +25,7 @@ use Rattle.dbpl_tree.specs.declared.ident.Qual.{Qual}
 use Rattle.dbpl_tree.specs.declared.operators.NotOperator.{NotOperator}
 use Rattle.dbpl_tree.specs.declared.range.Range.{Range}
 use Rattle.dbpl_grammar.specs.Expressions.{Inner, aggregate, all_of, are_qual, braced, each, each_of, element, element_first, element_made, expr_first, ident_first, is_qual, not_first, qual_in, second_of}
-use Rattle.dbpl_grammar.specs.Reading.{◌<$>◌, ◌⊗◌, after, optional}
+use Rattle.dbpl_grammar.specs.Reading.{◌<$>◌, ◌⊗◌, after, optional, kind_of}
 use Rattle.dbpl_grammar.proofs.ChoiceLaw.{law_all, law_either, law_wider}
 use Rattle.dbpl_grammar.proofs.Every.{Every, all_those, both, made, maybe, variant}
 use Rattle.dbpl_grammar.proofs.ExprLaw.{expr_more, factor_more}
@@ -127,6 +127,32 @@ qual_marks_in found is = ap (λ (ms : List Mark). ident_marks found.head ++ ms) 
     by_parts (Field name ∷ []) is = refl
     by_parts (Field name ∷ next ∷ others) is = absurd (true≢false (sym is))
     by_parts (Subscripts place es ∷ others) is = absurd (true≢false (sym is))
+
+-- that a designator is a name is seen by its lexemes
+pub same_qual : (one other : DesignatorOf Factor) → lexemes_in (designator_marks factor_marks other) ≡ lexemes_in (designator_marks factor_marks one) → is_qual one ≡ true → is_qual other ≡ true
+same_qual one other same is = by_parts one.parts other.parts (ap (λ (ls : List Lexeme). drop 1 ls) same) is
+  where
+    behind_name : (parts : List (PartOf Factor)) → lexemes_in (flat_map (part_marks factor_marks) parts) ≡ [] → parts ≡ []
+    behind_name [] e = refl
+    behind_name (Field name ∷ parts) e = absurd (let some : full_stop ∷ _ ≡ [] = e in cc)
+    behind_name (Subscripts place es ∷ parts) e = absurd (let some : left_bracket ∷ _ ≡ [] = e in cc)
+
+    by_parts : (parts others : List (PartOf Factor)) → lexemes_in (flat_map (part_marks factor_marks) others) ≡ lexemes_in (flat_map (part_marks factor_marks) parts) → are_qual parts ≡ true → are_qual others ≡ true
+    by_parts [] others e is = ap (λ (ps : List (PartOf Factor)). are_qual ps) (behind_name others e)
+    by_parts (Field name ∷ []) [] e is = refl
+    by_parts (Field name ∷ []) (Field other ∷ others) e is =
+        ap (λ (ps : List (PartOf Factor)). are_qual (Field other ∷ ps)) (behind_name others (ap (λ (ls : List Lexeme). drop 2 ls) e))
+    by_parts (Field name ∷ []) (Subscripts place es ∷ others) e is =
+        absurd (let heads : sign_row left_bracket ≡ sign_row full_stop = ap (λ (ls : List Lexeme). head_row ls) e in omega arith)
+      where
+        sign_row : Lexeme → ℕ
+        sign_row l = (kind_of l).1
+
+        head_row : List Lexeme → ℕ
+        head_row [] = 0
+        head_row (l ∷ ls) = (kind_of l).1
+    by_parts (Field name ∷ next ∷ parts) others e is = absurd (true≢false (sym is))
+    by_parts (Subscripts place es ∷ parts) others e is = absurd (true≢false (sym is))
 
 pub qual_shallow : (found : DesignatorOf Factor) → is_qual found ≡ true → designator_depth factor_depth found ≡ 0
 qual_shallow found is = by_parts found.parts is

@@ -3,8 +3,9 @@ use Rattle.std.proofs.Common.{◌≡◌, ℕ, ◌≤◌, max, Bool, true, false,
 use Rattle.std.proofs.lemmas.Bool.{and_parts}
 use Rattle.dbpl_base.specs.declared.lexeme.Lexeme.{Lexeme}
 use Rattle.dbpl_base.specs.declared.token.Token.{Token}
-use Rattle.dbpl_tree.specs.Marks.{Mark, Of, Meets}
+use Rattle.dbpl_tree.specs.Marks.{Mark, Meets, Of, lexemes_in}
 use Rattle.dbpl_grammar.specs.Reading.{Parser, ◌>>=◌, ◌<$>◌, ◌⊗◌, ◌⊗>◌, among, begins, closed, expect}
+use Rattle.dbpl_grammar.proofs.PlacedLaw.{places_closed, places_made, places_then}
 use Rattle.dbpl_grammar.proofs.OpenLaw.{complete_made, complete_then, opens_closed, opens_made, opens_then, some_closed}
 use Rattle.dbpl_grammar.proofs.Law.{BeginsBy, Ends, Law, Wrote, by_nothing, by_token}
 use Rattle.dbpl_grammar.proofs.MeetsLaw.{meets_join, meets_shorter, meets_split}
@@ -66,7 +67,7 @@ join_begins first second empty none tokens middle rest (by_nothing e split) (by_
 
 -- ---- two phrases
 
-module _ {A B : Type 0} {w : A → List Mark} {n : A → ℕ} {limit : ℕ} {first more : List Lexeme} {empty : Bool} {Is : A → Type 0} {read : Parser A} {w' : B → List Mark} {n' : B → ℕ} {second wider : List Lexeme} {none : Bool} {Is' : A → B → Type 0} {next : A → Parser B} (law : Law w n limit first more empty Is read) (later : (found : A) → Is found → Law w' n' limit second wider none (Is' found) (next found)) (follows : may_follow more second none wider ≡ true) where
+module _ {A B : Type 0} {w : A → List Mark} {n : A → ℕ} {limit : ℕ} {first more : List Lexeme} {empty : Bool} {Is : A → Type 0} {read : Parser A} {w' : B → List Mark} {n' : B → ℕ} {second wider : List Lexeme} {none : Bool} {Is' : A → B → Type 0} {next : A → Parser B} (law : Law w n limit first more empty Is read) (later : (found : A) → Is found → Law w' n' limit second wider none (Is' found) (next found)) (follows : may_follow more second none wider ≡ true) (keeps : (x x' : A) (y : B) → lexemes_in (w x') ≡ lexemes_in (w x) → Is' x y → Is' x' y) where
   then_begins : (found : A × B) (tokens rest : List Token) → Is found.0 × Is' found.0 found.1 → max (n found.0) (n' found.1) ≤ limit → Meets tokens (w found.0 ++ w' found.1) rest → BeginsBy (first_of empty first second) (empty && none) tokens rest
   then_begins found tokens rest is fits meets =
       let parts = meets_split (w found.0) (w' found.1) tokens rest meets in
@@ -103,10 +104,11 @@ module _ {A B : Type 0} {w : A → List Mark} {n : A → ℕ} {limit : ℕ} {fir
     steady = steady_then read next law.steady (λ found before rest e. (later found (law.wrote found before rest e).is).steady rest);
     some = λ place. complete_then w Is w' Is' place [] (law.some place) ((later (law.some place).tree (law.some place).is).some place);
     opens = opens_then w Is w' Is' read next law.opens (λ x tokens rest e. ((law.wrote x tokens rest e).is, (law.wrote x tokens rest e).meets)) (λ x is. record { some = (later x is).some; opens = (later x is).opens; steady = (later x is).steady });
+    places = places_then w n Is w' n' Is' limit law.places (λ x is. (later x is).places) keeps;
   }
 
 pub law_seq : {A B : Type 0} {w : A → List Mark} {n : A → ℕ} {limit : ℕ} {first more : List Lexeme} {empty : Bool} {Is : A → Type 0} {read : Parser A} {w' : B → List Mark} {n' : B → ℕ} {second wider : List Lexeme} {none : Bool} {Is' : B → Type 0} {next : Parser B} → Law w n limit first more empty Is read → Law w' n' limit second wider none Is' next → may_follow more second none wider ≡ true → Law (λ (x : A × B). w x.0 ++ w' x.1) (λ (x : A × B). max (n x.0) (n' x.1)) limit (first_of empty first second) wider (empty && none) (λ (x : A × B). Is x.0 × Is' x.1) (read ⊗ next)
-law_seq law later follows = law_then law (λ found is. later) follows
+law_seq law later follows = law_then law (λ found is. later) follows (λ x x' y same is. is)
 
 -- ---- a word or sign behind
 
@@ -157,6 +159,7 @@ module _ {A : Type 0} {w : A → List Mark} {n : A → ℕ} {limit : ℕ} {first
     steady = steady_closed lexeme read (word_no_end lexeme fixed) law.steady;
     some = λ place. some_closed w Is lexeme place (law.some place);
     opens = opens_closed w Is lexeme read law.opens (λ x tokens rest e. ((law.wrote x tokens rest e).is, (law.wrote x tokens rest e).meets));
+    places = places_closed w n limit Is lexeme law.places;
   }
 
 -- ---- a tree made of what was read
@@ -192,4 +195,5 @@ module _ {A B : Type 0} {w : A → List Mark} {n : A → ℕ} {limit : ℕ} {fir
     steady = steady_map make read law.steady;
     some = λ place. complete_made w Is w' Is' make marks to place [] (law.some place);
     opens = opens_made w Is w' Is' make read marks to law.opens;
+    places = places_made w n Is w' n' Is' limit make marks depth to back law.places;
   }

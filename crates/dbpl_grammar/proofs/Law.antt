@@ -6,7 +6,7 @@ use Rattle.dbpl_base.specs.declared.lexeme.Lexeme.{Lexeme}
 use Rattle.dbpl_base.specs.declared.lexeme.Lexeme.TheVariants.{Finish}
 use Rattle.dbpl_base.specs.declared.place.Place.{Place}
 use Rattle.dbpl_base.specs.declared.token.Token.{Token}
-use Rattle.dbpl_tree.specs.Marks.{Mark, Meets}
+use Rattle.dbpl_tree.specs.Marks.{Mark, Of, Before, Meets, lexemes_in}
 use Rattle.dbpl_grammar.specs.Reading.{Parser, Refused, among, begins, like}
 
 -- how the tokens of a phrase begin, which lead to `rest`: with one of these lexemes, or the phrase has no token
@@ -75,6 +75,23 @@ abbrev pub Opens : {A : Type 0} → (A → List Mark) → (A → Type 0) → Par
 Opens {A = A} marks Is read =
     (tokens front : List Token) (refused : Refused) (place : Place) → read tokens ≡ Err refused → tokens ≡ front ++ refused.rest → AtPlace place refused.rest → Completed marks Is place front
 
+-- ---- lexemes alone
+
+-- the tokens begin with the lexemes that the marks ask for, wherever they stand, and the rest stands behind
+abbrev pub Lexed : List Token → List Mark → List Token → Type 0
+Lexed tokens [] rest = tokens ≡ rest
+Lexed [] (mark ∷ marks) rest = ⊥
+Lexed (token ∷ tokens) (Of lexeme ∷ marks) rest = (token.lexeme ≡ lexeme) × Lexed tokens marks rest
+Lexed (token ∷ tokens) (Before place ∷ marks) rest = Lexed (token ∷ tokens) marks rest
+
+-- a tree of the same lexemes, with the places of these tokens
+pub record Placed {A : Type 0} (marks : A → List Mark) (depth : A → ℕ) (limit : ℕ) (Is : A → Type 0) (found : A) (tokens rest : List Token) : Type 0 where
+  pub tree : A
+  pub is : Is tree
+  pub fits : depth tree ≤ limit
+  pub meets : Meets tokens (marks tree) rest
+  pub same : lexemes_in (marks tree) ≡ lexemes_in (marks found)
+
 -- The law of a reading function. Its trees are those that satisfy `Is`; their spellings begin with a lexeme of `first`
 -- or may be empty; where none of `more` stands behind, the phrase ends.
 pub record Law {A : Type 0} (marks : A → List Mark) (depth : A → ℕ) (limit : ℕ) (first more : List Lexeme) (empty : Bool) (Is : A → Type 0) (read : Parser A) : Type 0 where
@@ -84,3 +101,4 @@ pub record Law {A : Type 0} (marks : A → List Mark) (depth : A → ℕ) (limit
   pub steady : (tokens : List Token) → Steady read tokens (read tokens)
   pub some : (place : Place) → Completed marks Is place []
   pub opens : Opens marks Is read
+  pub places : (found : A) (tokens rest : List Token) → Is found → depth found ≤ limit → Lexed tokens (marks found) rest → Placed marks depth limit Is found tokens rest

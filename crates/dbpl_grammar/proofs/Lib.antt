@@ -18,10 +18,12 @@ pub mod OneTree
 pub mod OpenLaw
 pub mod OperatorLaw
 pub mod OperatorTables
+pub mod PlacedLaw
 pub mod RangeLaw
 pub mod Ready
 pub mod Sets
 pub mod Sharp
+pub mod Spellings
 pub mod StatementLaw
 pub mod SharpExpr
 pub mod SharpFactor

@@ -5,10 +5,11 @@ use Rattle.dbpl_base.specs.declared.token.Token.{Token}
 use Rattle.dbpl_tree.specs.Depths.{greatest}
 use Rattle.dbpl_tree.specs.Marks.{Mark, Meets, where_marks}
 use Rattle.dbpl_grammar.specs.Reading.{Parser, Refused, wrong, ◌>>=◌, after, among, begins, either, flag, like, many, many_from}
+use Rattle.dbpl_grammar.proofs.PlacedLaw.{places_many}
 use Rattle.dbpl_grammar.proofs.OpenLaw.{complete_nothing, err, ok, ok_isnt, opens_many, opens_never}
 use Rattle.dbpl_grammar.proofs.ChoiceLaw.{begins_with}
 use Rattle.dbpl_grammar.proofs.JoinLaw.{ends_before, may_follow}
-use Rattle.dbpl_grammar.proofs.Law.{BeginsBy, Ends, Law, Wrote, by_nothing, by_token}
+use Rattle.dbpl_grammar.proofs.Law.{BeginsBy, Ends, Law, Lexed, Placed, Wrote, by_nothing, by_token}
 use Rattle.dbpl_grammar.proofs.ManyLaw.{Goes, steady_many}
 use Rattle.dbpl_grammar.proofs.MeetsLaw.{meets_join, meets_shorter, meets_split}
 use Rattle.dbpl_grammar.proofs.Numbers.{max_both, max_left, max_right}
@@ -102,6 +103,7 @@ module _ {A : Type 0} {w : A → List Mark} {n : A → ℕ} {limit : ℕ} {first
     steady = steady_many first read law.steady goes;
     some = λ place. complete_nothing (flat_map w) (EachIs Is) place [] tt refl;
     opens = opens_many w Is (EachIs Is) tt (λ x xs is all. (is, all)) first read law.steady goes (λ x tokens rest e. ((law.wrote x tokens rest e).is, (law.wrote x tokens rest e).meets)) law.opens;
+    places = places_many w n limit Is (EachIs Is) tt (λ x xs is all. (is, all)) (λ x xs is. is) law.places;
   }
 
 -- ---- a word that may stand or not
@@ -135,6 +137,11 @@ flag_wrote limit lexeme there tokens rest fixed e = by_begins (begins (lexeme �
         let same = ok_is (false, tokens) (there, rest) e in
         subst (λ (s : Bool × List Token). Wrote (flag_marks lexeme) (λ (b : Bool). 0) limit (λ (b : Bool). Unit {0}) s.0 tokens s.1) {x = (false, tokens)} same (record { is = tt; fits = zero-le; meets = refl })
 
+flag_places : (limit : ℕ) (lexeme : Lexeme) (there : Bool) (tokens rest : List Token) → Lexed tokens (where_marks there lexeme) rest → Placed (flag_marks lexeme) (λ (b : Bool). 0) limit (λ (b : Bool). Unit {0}) there tokens rest
+flag_places limit lexeme false tokens rest h = record { tree = false; is = tt; fits = zero-le; meets = h; same = refl }
+flag_places limit lexeme true [] rest h = absurd h
+flag_places limit lexeme true (token ∷ tokens) rest h = record { tree = true; is = tt; fits = zero-le; meets = (h.0, h.1); same = refl }
+
 -- a word that may stand is never refused
 flag_reads_on : (lexeme : Lexeme) (tokens : List Token) (refused : Refused) → flag lexeme tokens ≡ Err refused → ⊥
 flag_reads_on lexeme [] refused e = ok_isnt {A = Bool × List Token} (false, []) refused e
@@ -152,4 +159,5 @@ law_flag limit lexeme fixed = record {
   steady = steady_either (lexeme ∷ []) (after lexeme (λ (rest : List Token). ok (true, rest))) (λ (rest : List Token). ok (false, rest)) (steady_after lexeme (λ (rest : List Token). ok (true, rest)) (word_no_end lexeme fixed) (λ rest. steady_pure true rest)) (λ rest. steady_pure false rest);
   some = λ place. complete_nothing (flag_marks lexeme) (λ (b : Bool). Unit {0}) place false tt refl;
   opens = opens_never (flag_marks lexeme) (λ (b : Bool). Unit {0}) (flag lexeme) (flag_reads_on lexeme);
+  places = λ there tokens rest is fits h. flag_places limit lexeme there tokens rest h;
 }

@@ -2,14 +2,13 @@
 use Rattle.std.proofs.Common.{◌≡◌, ℕ, suc, ◌≤◌, max, Bool, true, false, ◌&&◌, List, [], ◌∷◌, ◌++◌, length, append_assoc, append-nil, length-append, Ok, refl, sym, ap, ◌∙◌, subst, arith}
 use Rattle.dbpl_base.specs.declared.lexeme.Lexeme.{Lexeme}
 use Rattle.dbpl_base.specs.declared.token.Token.{Token}
-use Rattle.dbpl_tree.specs.Marks.{Mark, Of, Meets}
-use Rattle.dbpl_grammar.specs.Reading.{Parser, ◌<$>◌, ◌⊗>◌, after, among}
+use Rattle.dbpl_tree.specs.Marks.{Mark, Meets}
+use Rattle.dbpl_grammar.specs.Reading.{Parser, ◌<$>◌, ◌⊗>◌, among}
 use Rattle.dbpl_grammar.proofs.JoinLaw.{ends_before}
 use Rattle.dbpl_grammar.proofs.Law.{BeginsBy, Ends, Law, by_nothing, by_token}
-use Rattle.dbpl_grammar.proofs.MeetsLaw.{meets_front, meets_join, meets_shorter, meets_split, meets_swap, same_front, same_place}
+use Rattle.dbpl_grammar.proofs.MeetsLaw.{meets_front, meets_join, meets_split, meets_swap, same_front, same_place}
 use Rattle.dbpl_grammar.proofs.Numbers.{max_left, max_right}
 use Rattle.dbpl_grammar.proofs.Sets.{apart}
-use Rattle.dbpl_grammar.proofs.TokenLaw.{expect_reads}
 
 -- no spelling begins with these tokens and the next one
 abbrev pub Longest : {A : Type 0} → (A → List Mark) → (A → Type 0) → List Token → Token → Type 0
@@ -63,18 +62,6 @@ exact_made {A = A} {B = B} {limit = limit} {read = read} w' n' Is' exact make ma
       let one = exact.reads front behind next made.0 made.1 (subst (λ (k : ℕ). k ≤ limit) (sym (ap n' made.2) ∙ depth made.0 made.1) fits) spelled (λ other rest x good m le. longest other rest (make x) (to x good) (subst (λ (ms : List Mark). Meets (front ++ next ∷ other) ms rest) (sym (marks x good)) m) le) in
       rw one (ap (λ (x : B). Ok (x, next ∷ behind)) made.2));
 }
-
--- ---- a word or sign in front
-
-after_exact : {A : Type 0} {w : A → List Mark} {n : A → ℕ} {limit : ℕ} {Is : A → Type 0} {read : Parser A} (lexeme : Lexeme) → Exact w n limit Is read → (front behind : List Token) (next : Token) (x : A) → Is x → n x ≤ limit → Meets (front ++ next ∷ behind) (Of lexeme ∷ w x) (next ∷ behind) → Longest (λ (y : A). Of lexeme ∷ w y) Is front next → after lexeme read (front ++ next ∷ behind) ≡ Ok (x, next ∷ behind)
-after_exact {w = w} lexeme exact [] behind next x is fits meets longest =
-    let less = meets_shorter (w x) behind (next ∷ behind) meets.1 in
-    absurd (omega arith)
-after_exact {w = w} {read = read} lexeme exact (first ∷ front) behind next x is fits meets longest =
-    rw (expect_reads lexeme first (front ++ next ∷ behind) meets.0) (exact.reads front behind next x is fits meets.1 (λ other rest y good m le. longest other rest y good (meets.0, m) le))
-
-pub exact_after : {A : Type 0} {w : A → List Mark} {n : A → ℕ} {limit : ℕ} {Is : A → Type 0} {read : Parser A} (lexeme : Lexeme) → Exact w n limit Is read → Exact (λ (x : A). Of lexeme ∷ w x) n limit Is (after lexeme read)
-exact_after lexeme exact = record { reads = after_exact lexeme exact }
 
 -- ---- one behind the other
 

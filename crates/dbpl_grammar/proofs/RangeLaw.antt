@@ -5,7 +5,7 @@ use Rattle.dbpl_tree.proofs.Levels.{aggregate_depth-out, aggregate_marks-out, ra
 use Rattle.dbpl_tree.specs.Depths.{depths, designator_depth, element_depth, factor_depth, greatest, option_depth, range_depth, range_depth_level}
 use Rattle.dbpl_tree.specs.Expressions.{designator_marks}
 use Rattle.dbpl_tree.specs.Factors.{factor_marks, range_level, range_marks, spelling}
-use Rattle.dbpl_tree.specs.Marks.{Mark, option_marks}
+use Rattle.dbpl_tree.specs.Marks.{Mark, lexemes_in, option_marks}
 use Rattle.dbpl_tree.specs.Words.{left_brace}
 use Rattle.dbpl_tree.specs.declared.aggregate.Aggregate.{Aggregate}
 use Rattle.dbpl_tree.specs.declared.designator.DesignatorOf.{DesignatorOf}
@@ -21,7 +21,7 @@ use Rattle.dbpl_grammar.specs.Reading.{nothing, optional}
 use Rattle.dbpl_grammar.proofs.ChoiceLaw.{law_all, law_counted, law_nothing, law_wider}
 use Rattle.dbpl_grammar.proofs.Every.{Every, maybe}
 use Rattle.dbpl_grammar.proofs.ExprLaw.{law_designator}
-use Rattle.dbpl_grammar.proofs.InnerLaw.{InnerLaw, are_as, as_designator, braced_marks, law_braced, qual_marks_in, qual_shallow, range_more, second_as}
+use Rattle.dbpl_grammar.proofs.InnerLaw.{InnerLaw, are_as, as_designator, braced_marks, law_braced, qual_marks_in, qual_shallow, range_more, same_qual, second_as}
 use Rattle.dbpl_grammar.proofs.JoinLaw.{law_made, law_then}
 use Rattle.dbpl_grammar.proofs.Law.{Law}
 
@@ -29,6 +29,10 @@ use Rattle.dbpl_grammar.proofs.Law.{Law}
 abbrev pub MayBrace : DesignatorOf Factor → Option (List Element) → Type 0
 MayBrace found None = Unit {0}
 MayBrace found (Some xs) = is_qual found ≡ true
+
+keep_brace : (one other : DesignatorOf Factor) (xs : Option (List Element)) → lexemes_in (designator_marks factor_marks other) ≡ lexemes_in (designator_marks factor_marks one) → MayBrace one xs → MayBrace other xs
+keep_brace one other None same is = tt
+keep_brace one other (Some xs) same is = same_qual one other same is
 
 abbrev pub named_aggregate : DesignatorOf Factor → List Element → Aggregate
 named_aggregate found xs = record { kind = qual_in found; elements = xs }
@@ -80,4 +84,4 @@ module _ {limit : ℕ} {inner : Inner} (laws : InnerLaw limit inner) where
   pub law_range : Every range_marks range_depth (suc limit) ident_first range_more false (range inner)
   unfolding range
   law_range =
-      law_made range_made range_marks range_depth (λ (y : Range). Unit {0}) (law_counted (law_then (law_designator factor_marks factor_depth laws.expr) (λ found is. law_behind found (is_qual found) refl) refl)) (λ x is. range_marks_made x.0 x.1 is.1) (λ x is. range_depth_made x.0 x.1 is.1) (λ x is. tt) (λ y is. range_cases y)
+      law_made range_made range_marks range_depth (λ (y : Range). Unit {0}) (law_counted (law_then (law_designator factor_marks factor_depth laws.expr) (λ found is. law_behind found (is_qual found) refl) refl keep_brace)) (λ x is. range_marks_made x.0 x.1 is.1) (λ x is. range_depth_made x.0 x.1 is.1) (λ x is. tt) (λ y is. range_cases y)

@@ -6,6 +6,7 @@ use Rattle.dbpl_base.specs.declared.place.Place.{Place}
 use Rattle.dbpl_base.specs.declared.token.Token.{Token}
 use Rattle.dbpl_tree.specs.Marks.{Mark, Of, Before, Meets}
 use Rattle.dbpl_grammar.specs.Reading.{Parser, Refused, ◌>>=◌, after, among, by_table, expect, found_or, here, leaf, like, wrong}
+use Rattle.dbpl_grammar.proofs.PlacedLaw.{places_after, places_here, places_leaf}
 use Rattle.dbpl_grammar.proofs.OpenLaw.{complete_after, err, ok, opens_after, opens_here, opens_leaf, some_here, some_leaf}
 use Rattle.dbpl_grammar.proofs.Law.{BeginsBy, Law, Wrote, by_nothing, by_token}
 use Rattle.dbpl_grammar.proofs.MeetsLaw.{meets_join, meets_shorter}
@@ -55,6 +56,7 @@ law_here limit = record {
   steady = steady_here;
   some = some_here;
   opens = opens_here;
+  places = places_here limit;
 }
 
 -- ---- a token that stands for a part of the tree
@@ -91,6 +93,7 @@ law_leaf limit meaning lexeme_of first one not_end means says begun = record {
   steady = steady_leaf meaning not_end;
   some = some_leaf lexeme_of one;
   opens = opens_leaf meaning lexeme_of one;
+  places = places_leaf lexeme_of limit;
 }
 
 -- a table of words and signs says what it means
@@ -147,11 +150,12 @@ after_wrote {w = w} {read = read} lexeme fixed law found tokens rest e =
     }
 
 pub law_after : {A : Type 0} {w : A → List Mark} {n : A → ℕ} {limit : ℕ} {first more : List Lexeme} {empty : Bool} {Is : A → Type 0} {read : Parser A} (lexeme : Lexeme) → is_word lexeme ≡ true → Law w n limit first more empty Is read → Law (λ (x : A). Of lexeme ∷ w x) n limit (lexeme ∷ []) more false Is (after lexeme read)
-law_after {w = w} {Is = Is} {read = read} lexeme fixed law = record {
+law_after {w = w} {n = n} {limit = limit} {Is = Is} {read = read} lexeme fixed law = record {
   begins_by = λ found tokens rest is fits meets. after_begins lexeme w found tokens rest meets;
   reads = λ found tokens rest is fits meets ends. after_reads lexeme w read found tokens rest meets (λ middle m. law.reads found middle rest is fits m ends);
   wrote = λ found tokens rest e. after_wrote lexeme (word_fixed lexeme fixed) law found tokens rest e;
   steady = steady_after lexeme read (word_no_end lexeme fixed) law.steady;
   some = λ place. complete_after w Is lexeme place (law.some place);
   opens = opens_after w Is lexeme read (λ other is. fixed_is lexeme other (word_fixed lexeme fixed) is) law.some law.opens;
+  places = places_after w n limit Is lexeme law.places;
 }

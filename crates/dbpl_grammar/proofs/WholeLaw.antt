@@ -1,21 +1,24 @@
 -- What is read of a whole text: a unit, the end of the text, and nothing behind it.
 use Rattle.std.proofs.Common.{◌≡◌, ◌≢◌, ℕ, zero, suc, ◌≤◌, Bool, true, false, not, ◌&&◌, List, [], ◌∷◌, ◌++◌, length, Result, Ok, Err, refl, sym, ap, ◌∙◌, subst, append_assoc, append-nil, arith, max, true≢false, if◌then◌else◌}
 use Rattle.std.proofs.lemmas.Bool.{and_parts}
+use Rattle.dbpl_base.specs.Scans.{lexemes_of}
 use Rattle.dbpl_base.specs.declared.lexeme.Lexeme.TheVariants.{Finish}
 use Rattle.dbpl_base.specs.declared.place.Place.{Place}
 use Rattle.dbpl_base.specs.declared.token.Token.{Token}
 use Rattle.dbpl_tree.specs.Marks.{Of, Meets}
 use Rattle.dbpl_tree.specs.UnitDepths.{unit_depth}
-use Rattle.dbpl_tree.specs.Units.{SpellsUnit, text_marks, unit_marks}
+use Rattle.dbpl_tree.specs.Units.{SpellsUnit, spell, text_marks, unit_marks}
 use Rattle.dbpl_tree.specs.declared.unit.Unit.{Unit as Module}
-use Rattle.dbpl_grammar.specs.Laws.{BegunUnits, HasEnd, IsText, NamesToken, NoneBegins, OneUnit, ReadsUnits, RefusesUnits, SpelledUnits, TextBegun}
+use Rattle.dbpl_grammar.specs.Laws.{BegunUnits, HasEnd, IsText, NamesToken, NoneBegins, OneUnit, ReadsUnits, RefusesUnits, SpelledUnits, SpellingBegins, TextBegun}
 use Rattle.dbpl_grammar.specs.Reading.{Refused, ◌>>=◌, begins, closed, expect, like, wrong}
 use Rattle.dbpl_grammar.specs.Units.{at_end, depth_limit, unit, whole_unit}
 use Rattle.dbpl_grammar.proofs.OpenLaw.{err, token_at}
 use Rattle.dbpl_grammar.proofs.JoinLaw.{expect_meets}
-use Rattle.dbpl_grammar.proofs.Law.{AtPlace, Steady, no_end}
+use Rattle.dbpl_grammar.proofs.Law.{AtPlace, Lexed, Steady, no_end}
 use Rattle.dbpl_grammar.proofs.MeetsLaw.{SamePlace, meets_join, meets_split, meets_swap}
+use Rattle.dbpl_grammar.proofs.PlacedLaw.{lexed_split}
 use Rattle.dbpl_grammar.proofs.Sets.{fixed_is}
+use Rattle.dbpl_grammar.proofs.Spellings.{begins_so, completing, lexed_closed, meets_lexemes}
 use Rattle.dbpl_grammar.proofs.SteadyLaw.{no_head, same_head}
 use Rattle.dbpl_grammar.proofs.TokenLaw.{both_ok, err_isnt, expect_ok, ok_is}
 use Rattle.dbpl_grammar.proofs.UnitLaw.{law_unit}
@@ -122,6 +125,23 @@ unit_read tokens found h =
 rest_is : (one other : Module) (rest more : List Token) → with_rest one rest ≡ Ok (other, more) → rest ≡ more
 rest_is one other rest more e = ap (λ (s : Module × List Token). s.1) (ok_is (one, rest) (other, more) e)
 
+-- other tokens of the lexemes of a spelling spell a unit too
+text_at : (u : Module) (tokens : List Token) → unit_depth u ≤ depth_limit → spell u ≡ lexemes_of tokens → (v : Module) × IsText tokens v
+text_at u tokens fits e =
+    let parts = lexed_split (unit_marks u) (Of Finish ∷ []) tokens [] (lexed_closed (unit_marks u) Finish tokens e) in
+    let p = (law_unit depth_limit).places u tokens parts.0 tt fits parts.1 in
+    (p.tree, (meets_join (unit_marks p.tree) (Of Finish ∷ []) tokens parts.0 [] p.meets (last_token parts.0 parts.2), p.fits))
+  where
+    last_token : (rest : List Token) → Lexed rest (Of Finish ∷ []) [] → Meets rest (Of Finish ∷ []) []
+    last_token [] h = absurd h
+    last_token (token ∷ rest) h = (h.0, h.1)
+
+-- the first lexemes of a spelling
+text_begins : (u : Module) (front others : List Token) → SpellsUnit (front ++ others) u → SpellingBegins (spell u) front
+text_begins u front others h =
+    let all = meets_lexemes (text_marks u) (front ++ others) [] h in
+    begins_so (spell u) front others (all.2 ∙ ap (λ (ts : List Token). lexemes_of ts) (sym (all.1 ∙ append-nil all.0)))
+
 -- what is read of the tokens that the refusal rests on is read of every other text that begins with them
 pub refuses_units : RefusesUnits
 refuses_units tokens refused e = by_stop (stops tokens refused e)
@@ -133,9 +153,11 @@ refuses_units tokens refused e = by_stop (stops tokens refused e)
         record {
           front = t.front;
           split = t.split ∙ ap (λ (rest : List Token). t.front ++ rest) same;
-          none = λ token behind more u begun text.
-              (let read = unit_read (t.front ++ token ∷ more) u text in
-              err_isnt _ _ (sym (t.holds token behind more (same ∙ begun)) ∙ read.1));
+          none = λ token behind u begun fits begins.
+              (let rest = completing (spell u) t.front token begins in
+              let text = text_at u (t.front ++ token ∷ rest.0) fits rest.1 in
+              let read = unit_read (t.front ++ token ∷ rest.0) text.0 text.1 in
+              err_isnt _ _ (sym (t.holds token behind rest.0 (same ∙ begun)) ∙ read.1));
         }
     by_stop (at_no_end found is unlike) =
         let s = (law_unit depth_limit).steady tokens in
@@ -143,10 +165,12 @@ refuses_units tokens refused e = by_stop (stops tokens refused e)
         record {
           front = t.front;
           split = t.split;
-          none = λ token behind more u begun text.
-              (let read = unit_read (t.front ++ token ∷ more) u text in
-              let same = rest_is found u (token ∷ more) (read.0 ∷ []) (sym (t.holds token behind more begun) ∙ read.1) in
-              true≢false (sym read.2 ∙ ap (λ (t : Token). like Finish t.lexeme) (sym (same_head token read.0 more [] same)) ∙ unlike token behind begun));
+          none = λ token behind u begun fits begins.
+              (let rest = completing (spell u) t.front token begins in
+              let text = text_at u (t.front ++ token ∷ rest.0) fits rest.1 in
+              let read = unit_read (t.front ++ token ∷ rest.0) text.0 text.1 in
+              let same = rest_is found text.0 (token ∷ rest.0) (read.0 ∷ []) (sym (t.holds token behind rest.0 begun) ∙ read.1) in
+              true≢false (sym read.2 ∙ ap (λ (t : Token). like Finish t.lexeme) (sym (same_head token read.0 rest.0 [] same)) ∙ unlike token behind begun));
         }
     by_stop (behind_end found finish token behind is like_it same) =
         let s = (law_unit depth_limit).steady tokens in
@@ -154,11 +178,13 @@ refuses_units tokens refused e = by_stop (stops tokens refused e)
         record {
           front = t.front ++ finish ∷ [];
           split = t.split ∙ sym (append_assoc t.front (finish ∷ []) (token ∷ behind)) ∙ ap (λ (rest : List Token). (t.front ++ finish ∷ []) ++ rest) (sym same);
-          none = λ first later more u begun text.
-              (let there = append_assoc t.front (finish ∷ []) (first ∷ more) in
-              let read = unit_read (t.front ++ finish ∷ first ∷ more) u (subst (λ (all : List Token). IsText all u) there text) in
-              let rests = rest_is found u (finish ∷ first ∷ more) (read.0 ∷ []) (sym (t.holds finish (token ∷ behind) (first ∷ more) refl) ∙ read.1) in
-              no_head first more (sym (ap (λ (all : List Token). Rattle.std.proofs.Common.drop 1 all) rests)));
+          none = λ first later u begun fits begins.
+              (let rest = completing (spell u) (t.front ++ finish ∷ []) first begins in
+              let there = append_assoc t.front (finish ∷ []) (first ∷ rest.0) in
+              let text = text_at u ((t.front ++ finish ∷ []) ++ first ∷ rest.0) fits rest.1 in
+              let read = unit_read (t.front ++ finish ∷ first ∷ rest.0) text.0 (subst (λ (all : List Token). IsText all text.0) there text.1) in
+              let rests = rest_is found text.0 (finish ∷ first ∷ rest.0) (read.0 ∷ []) (sym (t.holds finish (token ∷ behind) (first ∷ rest.0) refl) ∙ read.1) in
+              no_head first rest.0 (sym (ap (λ (all : List Token). Rattle.std.proofs.Common.drop 1 all) rests)));
         }
 
 -- ---- the end of the text is the last token alone
@@ -224,9 +250,8 @@ begun_units tokens refused e = by_stop (stops tokens refused e)
         record {
           front = t.front;
           split = t.split ∙ ap (λ (rest : List Token). t.front ++ rest) same;
-          others = c.tokens ++ finish ∷ [];
           unit = c.tree;
-          spelled = ended (t.front ++ (c.tokens ++ finish ∷ [])) finish c.tree refl (c.meets (finish ∷ []) refl);
+          begins = text_begins c.tree t.front (c.tokens ++ finish ∷ []) (ended (t.front ++ (c.tokens ++ finish ∷ [])) finish c.tree refl (c.meets (finish ∷ []) refl));
         }
     by_stop (at_no_end found is unlike) =
         let s = (law_unit depth_limit).steady tokens in
@@ -236,9 +261,8 @@ begun_units tokens refused e = by_stop (stops tokens refused e)
         record {
           front = t.front;
           split = t.split;
-          others = finish ∷ [];
           unit = found;
-          spelled = ended (t.front ++ finish ∷ []) finish found refl (meets_swap (unit_marks found) t.front refused.rest (finish ∷ []) (finish_place refused.rest) (subst (λ (all : List Token). Meets all (unit_marks found) refused.rest) t.split wrote.meets));
+          begins = text_begins found t.front (finish ∷ []) (ended (t.front ++ finish ∷ []) finish found refl (meets_swap (unit_marks found) t.front refused.rest (finish ∷ []) (finish_place refused.rest) (subst (λ (all : List Token). Meets all (unit_marks found) refused.rest) t.split wrote.meets)));
         }
     by_stop (behind_end found finish token behind is like_it same) =
         let s = (law_unit depth_limit).steady tokens in
@@ -247,7 +271,6 @@ begun_units tokens refused e = by_stop (stops tokens refused e)
         record {
           front = t.front ++ finish ∷ [];
           split = t.split ∙ sym (append_assoc t.front (finish ∷ []) (token ∷ behind)) ∙ ap (λ (rest : List Token). (t.front ++ finish ∷ []) ++ rest) (sym same);
-          others = [];
           unit = found;
-          spelled = subst (λ (all : List Token). SpellsUnit all found) (sym (append-nil (t.front ++ finish ∷ []))) (ended (t.front ++ finish ∷ []) finish found (fixed_is Finish finish.lexeme refl like_it) (meets_swap (unit_marks found) t.front (finish ∷ token ∷ behind) (finish ∷ []) refl (subst (λ (all : List Token). Meets all (unit_marks found) (finish ∷ token ∷ behind)) t.split wrote.meets)));
+          begins = text_begins found (t.front ++ finish ∷ []) ([]) (subst (λ (all : List Token). SpellsUnit all found) (sym (append-nil (t.front ++ finish ∷ []))) (ended (t.front ++ finish ∷ []) finish found (fixed_is Finish finish.lexeme refl like_it) (meets_swap (unit_marks found) t.front (finish ∷ token ∷ behind) (finish ∷ []) refl (subst (λ (all : List Token). Meets all (unit_marks found) (finish ∷ token ∷ behind)) t.split wrote.meets))));
         }

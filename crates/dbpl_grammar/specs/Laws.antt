@@ -1,10 +1,12 @@
 -- What is claimed of the grammar, and of what is read by it.
-use Rattle.std.specs.Prelude.{◌≡◌, ◌≢◌, ℕ, ◌≤◌, List, [], ◌∷◌, ◌++◌, length, Ok, Err}
+use Rattle.std.specs.Prelude.{◌≡◌, ◌≢◌, ℕ, ◌≤◌, List, [], ◌∷◌, ◌++◌, Ok, Err}
+use Rattle.dbpl_base.specs.Scans.{lexemes_of}
+use Rattle.dbpl_base.specs.declared.lexeme.Lexeme.{Lexeme}
 use Rattle.dbpl_base.specs.declared.lexeme.Lexeme.TheVariants.{Finish}
 use Rattle.dbpl_base.specs.declared.token.Token.{Token}
-use Rattle.dbpl_tree.specs.Marks.{Mark, Meets}
+use Rattle.dbpl_tree.specs.Marks.{Mark, Meets, lexemes_in}
 use Rattle.dbpl_tree.specs.UnitDepths.{unit_depth}
-use Rattle.dbpl_tree.specs.Units.{SpellsUnit}
+use Rattle.dbpl_tree.specs.Units.{SpellsUnit, spell}
 use Rattle.dbpl_tree.specs.declared.unit.Unit.{Unit as Module}
 use Rattle.dbpl_grammar.specs.Reading.{Parser, Refused}
 use Rattle.dbpl_grammar.specs.Units.{depth_limit, whole_unit}
@@ -29,24 +31,27 @@ ReadsUnits = (tokens : List Token) (unit : Module) → IsText tokens unit → wh
 abbrev pub SpelledUnits : Type 0
 SpelledUnits = (tokens : List Token) (unit : Module) → whole_unit depth_limit tokens ≡ Ok unit → IsText tokens unit
 
--- No unit that isn't too deep begins with the tokens up to and with the first one of the rest.
+-- these are the first lexemes of a spelling, those of these tokens in turn
+abbrev pub SpellingBegins : List Lexeme → List Token → Type 0
+SpellingBegins spelling tokens = (more : List Lexeme) × (spelling ≡ lexemes_of tokens ++ more)
+
+-- No spelling of a unit that isn't too deep begins with the tokens up to and with the first one of the rest.
 pub record NoneBegins (tokens rest : List Token) : Type 0 where
   pub front : List Token
   pub split : tokens ≡ front ++ rest
-  pub none : (token : Token) (behind other : List Token) (unit : Module) → rest ≡ token ∷ behind → IsText (front ++ token ∷ other) unit → ⊥
+  pub none : (token : Token) (behind : List Token) (unit : Module) → rest ≡ token ∷ behind → unit_depth unit ≤ depth_limit → SpellingBegins (spell unit) (front ++ token ∷ []) → ⊥
 
 -- a refusal names the tokens from one on with which no unit begins
 abbrev pub RefusesUnits : Type 0
 RefusesUnits =
     (tokens : List Token) (refused : Refused) → whole_unit depth_limit tokens ≡ Err refused → NoneBegins tokens refused.rest
 
--- The tokens in front of the rest begin a text: with others behind them they spell some unit, of any depth.
+-- The spelling of some unit, of any depth, begins with the tokens in front of the rest.
 pub record TextBegun (tokens rest : List Token) : Type 0 where
   pub front : List Token
   pub split : tokens ≡ front ++ rest
-  pub others : List Token
   pub unit : Module
-  pub spelled : SpellsUnit (front ++ others) unit
+  pub begins : SpellingBegins (spell unit) front
 
 -- where a text is refused, it has begun well
 abbrev pub BegunUnits : Type 0
@@ -64,10 +69,9 @@ NamesToken =
 
 -- ---- phrases at the front of tokens
 
--- no spelling of such a phrase begins with these tokens and the next one
+-- no spelling of such a phrase, of any depth, begins with these tokens and the next one
 abbrev pub NoneLonger : {A : Type 0} → (A → List Mark) → List Token → Token → Type 0
-NoneLonger {A = A} marks front next =
-    (other rest : List Token) (x : A) → Meets (front ++ next ∷ other) (marks x) rest → length rest ≤ length other → ⊥
+NoneLonger {A = A} marks front next = (phrase : A) → SpellingBegins (lexemes_in (marks phrase)) (front ++ next ∷ []) → ⊥
 
 -- THE phrase at the front of these tokens: it is spelled up to the next token and isn't deeper than the limit, and none
 -- of any depth begins with its tokens and the next one.
@@ -82,11 +86,11 @@ pub record Stands {A : Type 0} (marks : A → List Mark) (depth : A → ℕ) (li
   pub fits : depth phrase ≤ limit
   pub longest : NoneLonger marks front next
 
--- No such phrase that isn't too deep begins with the tokens up to and with the first one of the rest.
+-- No spelling of such a phrase that isn't too deep begins with the tokens up to and with the first one of the rest.
 pub record NoPhraseBegins {A : Type 0} (marks : A → List Mark) (depth : A → ℕ) (limit : ℕ) (tokens rest : List Token) : Type 0 where
   pub front : List Token
   pub split : tokens ≡ front ++ rest
-  pub none : (token : Token) (behind other left : List Token) (phrase : A) → rest ≡ token ∷ behind → Meets (front ++ token ∷ other) (marks phrase) left → length left ≤ length other → depth phrase ≤ limit → ⊥
+  pub none : (token : Token) (behind : List Token) (phrase : A) → rest ≡ token ∷ behind → depth phrase ≤ limit → SpellingBegins (lexemes_in (marks phrase)) (front ++ token ∷ []) → ⊥
 
 -- what is read is the phrase at the front
 abbrev pub ReadsPhrase : {A : Type 0} → (A → List Mark) → (A → ℕ) → (ℕ → Parser A) → Type 0
@@ -108,16 +112,12 @@ abbrev pub NamesPhraseToken : {A : Type 0} → (ℕ → Parser A) → Type 0
 NamesPhraseToken read =
     (limit : ℕ) (tokens : List Token) (refused : Refused) → HasEnd tokens → read limit tokens ≡ Err refused → refused.rest ≢ []
 
--- The tokens in front of the rest begin a phrase: with others behind them they are among those that spell one, of any
--- depth.
+-- The spelling of some phrase, of any depth, begins with the tokens in front of the rest.
 pub record PhraseBegun {A : Type 0} (marks : A → List Mark) (tokens rest : List Token) : Type 0 where
   pub front : List Token
   pub split : tokens ≡ front ++ rest
-  pub others : List Token
-  pub left : List Token
   pub phrase : A
-  pub spelled : Meets (front ++ others) (marks phrase) left
-  pub within : length left ≤ length others
+  pub begins : SpellingBegins (lexemes_in (marks phrase)) front
 
 -- where a phrase is refused, it has begun well
 abbrev pub BegunPhrase : {A : Type 0} → (A → List Mark) → (ℕ → Parser A) → Type 0

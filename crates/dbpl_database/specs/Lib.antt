@@ -1,0 +1,4 @@
+pub mod Binding
+pub mod Databases
+pub mod Reading
+pub mod Spelling

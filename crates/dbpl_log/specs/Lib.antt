@@ -1,0 +1,5 @@
+pub mod Beginning
+pub mod Changes
+pub mod Fronts
+pub mod Records
+pub mod Rest

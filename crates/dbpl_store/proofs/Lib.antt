@@ -1,0 +1,5 @@
+pub mod Changing
+pub mod Committing
+pub mod Creations
+pub mod Openings
+pub mod Standing

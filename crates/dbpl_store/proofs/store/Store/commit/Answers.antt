@@ -1,0 +1,111 @@
+use Rattle.std.proofs.Common.{◌≡◌, List, [], ◌++◌, ◌∷◌, Some, ap, rules, sym, ◌∙◌}
+use Rattle.dbpl_log.specs.Changes.{HasEither, LeavesLog}
+use Rattle.dbpl_store.proofs.Changing.{committed-kept, kept-none, kept-some, settled-kept}
+use Rattle.dbpl_store.proofs.Committing.{nothing-written, record-written}
+use Rattle.dbpl_store.proofs.Standing.{newest-more, same-spelling, spelt-read}
+use Rattle.dbpl_store.specs.Kept.{IsSpelt}
+use Rattle.dbpl_store.specs.Stores.{committed_of, database_in}
+use Rattle.dbpl_store.proofs.store.Store.commit.Goals as goal
+
+pub returns-in_default-clause-moments : goal.returns-in_default-clause-moments
+returns-in_default-clause-moments g c = λ told stood.
+    nothing-written (g.W.World.history c.args.world.now) c.args.self.now.log (committed_of c.args.self.now)
+    (database_in c.args.self.now) stood
+
+pub returns-in_default-clause-committed : goal.returns-in_default-clause-committed
+returns-in_default-clause-committed g c =
+    committed-kept c.args.self.now.stored.items c.args.self.now.database c.args.self.now.sound
+    (kept-none (λ bytes. bytes.items) c.args.self.now.stored.items c.args.self.now.database c.args.self.now.changed
+    c.args.self.now.kept (sym c.take.ensures.value ∙ c.in_default.is))
+
+pub returns-then-eq-clause-moments : goal.returns-then-eq-clause-moments
+returns-then-eq-clause-moments g c = λ told stood.
+    nothing-written (g.W.World.history c.args.world.now) c.args.self.now.log (committed_of c.args.self.now)
+    (database_in c.args.self.now) stood
+
+pub returns-then-eq-clause-committed : goal.returns-then-eq-clause-committed
+returns-then-eq-clause-committed g c =
+    let spelt =
+    kept-some (λ bytes. bytes.items) c.args.self.now.stored.items c.args.self.now.database c.args.self.now.changed
+    c.in-Some.changed c.args.self.now.kept (sym c.take.ensures.value ∙ c.in-Some.is)
+    in
+    let same : c.in-Some.changed.items ≡ c.args.self.now.stored.items = search rules in
+    committed-kept c.args.self.now.stored.items c.args.self.now.database c.args.self.now.sound (rw (← same) spelt)
+
+pub invariant_of-self-in-Ok : goal.invariant_of-self-in-Ok
+invariant_of-self-in-Ok g c =
+    let spelt =
+    kept-some (λ bytes. bytes.items) c.args.self.now.stored.items c.args.self.now.database c.args.self.now.changed
+    c.in-Some.changed c.args.self.now.kept (sym c.take.ensures.value ∙ c.in-Some.is)
+    in
+    record {
+      sound = c.args.self.now.sound;
+      kept = settled-kept (λ bytes. bytes.items) c.in-Some.changed.items c.args.self.now.database c.take.new.self
+          c.args.self.now.sound spelt c.take.ensures.after;
+    }
+
+pub returns-in-Ok-clause-moments : goal.returns-in-Ok-clause-moments
+returns-in-Ok-clause-moments g c = λ told stood.
+    let spelt =
+    kept-some (λ bytes. bytes.items) c.args.self.now.stored.items c.args.self.now.database c.args.self.now.changed
+    c.in-Some.changed c.args.self.now.kept (sym c.take.ensures.value ∙ c.in-Some.is)
+    in
+    record-written (g.W.World.history c.args.world.now) (g.W.World.history c.commit.new.world) stood.0
+    c.in-Some.changed.items (committed_of c.args.self.now) (database_in c.args.self.now) stood.2
+    (spelt-read c.args.self.now.database c.in-Some.changed.items c.args.self.now.sound spelt)
+    (rw (← c.as_slice-3.ensures.value) (c.commit.ensures.moments told stood.0 stood.1))
+
+pub returns-in-Ok-clause-open : goal.returns-in-Ok-clause-open
+returns-in-Ok-clause-open g c = λ told stood.
+    let spelt =
+    kept-some (λ bytes. bytes.items) c.args.self.now.stored.items c.args.self.now.database c.args.self.now.changed
+    c.in-Some.changed c.args.self.now.kept (sym c.take.ensures.value ∙ c.in-Some.is)
+    in
+    let read = spelt-read c.args.self.now.database c.in-Some.changed.items c.args.self.now.sound spelt in (
+      stood.0 ++ c.in-Some.changed.items ∷ [],
+      rw (← c.as_slice-3.ensures.value) (c.in-Ok.ensures.committed told stood.0 stood.1),
+      newest-more [] stood.0 (committed_of c.args.self.now) c.in-Some.changed.items c.args.self.now.database stood.2 read
+          ∙ ap (λ database. Some database)
+          (sym (committed-kept c.in-Some.changed.items c.args.self.now.database c.args.self.now.sound spelt)),
+    )
+
+pub returns-in-Ok-clause-committed : goal.returns-in-Ok-clause-committed
+returns-in-Ok-clause-committed g c =
+    committed-kept c.in-Some.changed.items c.args.self.now.database c.args.self.now.sound
+    (kept-some (λ bytes. bytes.items) c.args.self.now.stored.items c.args.self.now.database c.args.self.now.changed
+    c.in-Some.changed c.args.self.now.kept (sym c.take.ensures.value ∙ c.in-Some.is))
+
+pub returns-in-Ok-clause-idle : goal.returns-in-Ok-clause-idle
+returns-in-Ok-clause-idle g c = λ same.
+    let spelt =
+    kept-some (λ bytes. bytes.items) c.args.self.now.stored.items c.args.self.now.database c.args.self.now.changed
+    c.in-Some.changed c.args.self.now.kept (sym c.take.ensures.value ∙ c.in-Some.is)
+    in
+    let one : c.in-Some.changed.items ≡ c.args.self.now.stored.items =
+    same-spelling c.args.self.now.database c.args.self.now.stored.items c.in-Some.changed.items
+    c.args.self.now.kept.stored_is spelt same
+    in
+    absurd (search rules)
+
+pub returns-in-Err-clause-moments : goal.returns-in-Err-clause-moments
+returns-in-Err-clause-moments g c = λ told stood.
+    let spelt =
+    kept-some (λ bytes. bytes.items) c.args.self.now.stored.items c.args.self.now.database c.args.self.now.changed
+    c.in-Some.changed c.args.self.now.kept (sym c.take.ensures.value ∙ c.in-Some.is)
+    in
+    record-written (g.W.World.history c.args.world.now) (g.W.World.history c.commit.new.world) stood.0
+    c.in-Some.changed.items (committed_of c.args.self.now) (database_in c.args.self.now) stood.2
+    (spelt-read c.args.self.now.database c.in-Some.changed.items c.args.self.now.sound spelt)
+    (rw (← c.as_slice-3.ensures.value) (c.commit.ensures.moments told stood.0 stood.1))
+
+pub returns-in-Err-clause-idle : goal.returns-in-Err-clause-idle
+returns-in-Err-clause-idle g c = λ same.
+    let spelt =
+    kept-some (λ bytes. bytes.items) c.args.self.now.stored.items c.args.self.now.database c.args.self.now.changed
+    c.in-Some.changed c.args.self.now.kept (sym c.take.ensures.value ∙ c.in-Some.is)
+    in
+    let one : c.in-Some.changed.items ≡ c.args.self.now.stored.items =
+    same-spelling c.args.self.now.database c.args.self.now.stored.items c.in-Some.changed.items
+    c.args.self.now.kept.stored_is spelt same
+    in
+    absurd (search rules)

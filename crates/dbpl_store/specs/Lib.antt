@@ -1,0 +1,4 @@
+pub mod Errors
+pub mod Kept
+pub mod Stands
+pub mod Stores

@@ -1,0 +1,50 @@
+//! A commit: the log gets the database as one more record.
+ghost use Rattle.std.specs.Prelude.{◌≡◌, false, IsTrue, IsSome, OnErr, OnOk};
+ghost use Rattle.dbpl_store.specs.Stands.{IsEither, LeavesDatabase};
+ghost use Rattle.dbpl_store.specs.Stores.{IsOpen, bound_in, committed_of, database_in, is_running};
+ghost use Rattle.dbpl_world.specs.Counts.{OnlyDiskFaults, Rose};
+ghost use Rattle.dbpl_world.specs.History.{now};
+ghost use Rattle.dbpl_world.specs.Moments.{EachMoment};
+
+use crate::Store;
+use dbpl_world::{Failed, World};
+
+impl Store {
+    /// Ends the running transaction: the database is kept. Nothing is written where it is the one that is kept already.
+    /// It takes no memory.
+    pub fn commit<W: World>(&mut self, world: &mut W) -> Result<(), Failed>
+        requires mounted { IsSome (W.mounted world.old) }
+        requires running { IsTrue (is_running self.old) }
+        ensures moments { IsTrue W.tells → IsOpen (now (W.history world.old)) self.old →
+            EachMoment (LeavesDatabase (IsEither (committed_of self.old) (database_in self.old)) (now (W.history world.old)))
+            (W.history world.old) (W.history world.new) }
+        ensures open { IsTrue W.tells → IsOpen (now (W.history world.old)) self.old →
+            OnOk result (IsOpen (now (W.history world.new)) self.new) }
+        ensures committed { OnOk result (committed_of self.new ≡ database_in self.old) }
+        ensures database { database_in self.new ≡ database_in self.old }
+        ensures ended { is_running self.new ≡ false }
+        ensures bound { bound_in self.new ≡ bound_in self.old }
+        ensures idle { database_in self.old ≡ committed_of self.old → (world.new ≡ world.old) }
+        ensures same { W.mounted world.new ≡ W.mounted world.old }
+        ensures counts { OnlyDiskFaults (W.counts world.old) (W.counts world.new) }
+        ensures cause { OnErr result (Rose (W.counts world.old).disk_faults (W.counts world.new).disk_faults) }
+    {
+        self.running = false;
+        let Some(changed) = self.changed.take() else {
+            return Ok(());
+        };
+        if changed.as_slice() == self.stored.as_slice() {
+            return Ok(());
+        }
+        match self.log.commit(world, changed.as_slice()) {
+            Ok(()) => {
+                self.stored = changed;
+                Ok(())
+            }
+            Err(failed) => {
+                self.changed = Some(changed);
+                Err(failed)
+            }
+        }
+    }
+}

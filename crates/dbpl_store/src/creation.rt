@@ -1,0 +1,35 @@
+//! A new store.
+ghost use Rattle.std.specs.Prelude.{◌≡◌, ◌⊎◌, ℕ, Err, IsSome, IsTrue, List, OnOk};
+ghost use Rattle.dbpl_log.specs.Beginning.{IsForeign, MayBegin};
+ghost use Rattle.dbpl_log.specs.Records.{HasHead};
+ghost use Rattle.dbpl_log.specs.declared.create_err.CreateErr.TheVariants as errors;
+ghost use Rattle.dbpl_store.specs.Stands.{LeavesBegun, LeavesOld, StandsEmpty};
+ghost use Rattle.dbpl_world.specs.Counts.{OnlyDiskFaults, Rose};
+ghost use Rattle.dbpl_world.specs.History.{now};
+ghost use Rattle.dbpl_world.specs.Images.{IsImage};
+ghost use Rattle.dbpl_world.specs.Moments.{EachMoment};
+
+use dbpl_log::CreateErr;
+use dbpl_world::World;
+
+/// Makes an empty store of the mounted one. It takes no memory.
+pub fn create<W: World>(world: &mut W) -> Result<(), CreateErr>
+    requires mounted { IsSome (W.mounted world.old) }
+    ensures moments { IsTrue W.tells → ((log : List ℕ) → IsImage (now (W.history world.old)).disk.log log → MayBegin log) →
+        EachMoment (LeavesBegun (now (W.history world.old))) (W.history world.old) (W.history world.new) }
+    ensures made { IsTrue W.tells → OnOk result (StandsEmpty (now (W.history world.new))) }
+
+    // Each refusal comes exactly where it says, but for faults, and leaves all as it was.
+    ensures exists { IsTrue W.tells → result ≡ Err errors.Exists → HasHead (now (W.history world.old)).disk.log.now }
+    ensures exists_where { IsTrue W.tells → HasHead (now (W.history world.old)).disk.log.now → (result ≡ Err errors.Exists) ⊎ (result ≡ Err errors.Disk) }
+    ensures foreign { IsTrue W.tells → result ≡ Err errors.Foreign → IsForeign (now (W.history world.old)).disk }
+    ensures foreign_where { IsTrue W.tells → IsForeign (now (W.history world.old)).disk → (result ≡ Err errors.Foreign) ⊎ (result ≡ Err errors.Disk) }
+    ensures refused { IsTrue W.tells → (result ≡ Err errors.Exists) ⊎ (result ≡ Err errors.Foreign) →
+        EachMoment (LeavesOld (now (W.history world.old))) (W.history world.old) (W.history world.new) }
+
+    ensures same { W.mounted world.new ≡ W.mounted world.old }
+    ensures counts { OnlyDiskFaults (W.counts world.old) (W.counts world.new) }
+    ensures cause { result ≡ Err errors.Disk → Rose (W.counts world.old).disk_faults (W.counts world.new).disk_faults }
+{
+    dbpl_log::create(world)
+}
