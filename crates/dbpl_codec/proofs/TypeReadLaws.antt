@@ -75,7 +75,7 @@ bytes_at-takes count bytes x rest h e = by_test (nat_lt (length bytes) count) re
           subst IsBytes behind (λ i. rw (get_or-drop count bytes i 0) (h (count + i))),
         )
 
-pub name-completes : Completes any count_fits name_bytes name_at
+name-completes : Completes any count_fits name_bytes name_at
 unfolding name_at
 name-completes name rest t f =
     let count : word_at (name_bytes name ++ rest) ≡ Some (length name, name ++ rest) =

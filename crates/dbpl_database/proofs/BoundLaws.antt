@@ -1,21 +1,22 @@
 -- A relation variable that is spelled is read, and what is read was spelled so.
-use Rattle.std.proofs.Common.{◌≡◌, ◌&&◌, ◌+◌, ◌<◌, ℕ, inl, inr, length, get_or, arith, Bool, true, false, if◌then◌else◌, List, [], ◌++◌, Option, Some, None, refl, sym, ap, subst, ◌∙◌, append_assoc}
-use Rattle.std.proofs.lemmas.Bool.{cases_lt}
-use Rattle.std.proofs.lemmas.List.{append-nil, get_or-append-add, get_or_append_left, get_or_past}
+use Rattle.std.proofs.Common.{◌≡◌, ◌&&◌, ◌+◌, ◌^◌, ◌<◌, ℕ, inl, inr, length, get_or, arith, Bool, true, false, if◌then◌else◌, List, [], ◌∷◌, ◌++◌, take, drop, Option, Some, None, refl, sym, ap, subst, ◌∙◌, append_assoc}
+use Rattle.std.proofs.lemmas.Bool.{cases_lt, ltb-true}
+use Rattle.std.proofs.lemmas.List.{append-nil, get_or-append-add, get_or_append_left, get_or_past, length-append}
 use Rattle.std.specs.Cmp.{first_so, second_so}
 use Rattle.std.specs.Cmp.Derive.{both_true}
-use Rattle.dbpl_codec.proofs.ByteLaws.{IsBytes, some_is}
+use Rattle.dbpl_codec.proofs.ByteLaws.{IsBytes, some_is, word_at-again}
 use Rattle.dbpl_codec.proofs.CompleteLaws.{reads-complete}
 use Rattle.dbpl_codec.proofs.ListLaws.{Completes, Sound, Spelled, bind_some}
-use Rattle.dbpl_codec.proofs.TypeReadLaws.{name-completes, name-sound}
+use Rattle.dbpl_codec.proofs.TypeReadLaws.{name-sound}
 use Rattle.dbpl_codec.proofs.TypeWhole.{keeps, type_found, type_keeps, type_read}
 use Rattle.dbpl_codec.proofs.ValueLaws.{reads-sound}
 use Rattle.dbpl_codec.proofs.WholeLaws.{whole_some}
 use Rattle.dbpl_codec.specs.Numbers.{count_bytes, count_fits, name_bytes}
-use Rattle.dbpl_codec.specs.Reading.{◌>>=◌, reads, whole}
-use Rattle.dbpl_codec.specs.TypeReading.{name_at, type_at}
+use Rattle.dbpl_codec.specs.Reading.{◌>>=◌, reads, whole, word_at}
+use Rattle.dbpl_codec.specs.TypeReading.{bytes_at, name_at, type_at}
 use Rattle.dbpl_codec.specs.TypeSpelling.{type_bytes, type_fits}
 use Rattle.dbpl_codec.specs.ValueSpelling.{bytes_of, value_fits}
+use Rattle.dbpl_database.proofs.StringSteps.{bytes_long, name_steps}
 use Rattle.dbpl_database.specs.Databases.{are_small, is_bound, is_kept, is_kept_name, is_kept_type}
 use Rattle.dbpl_database.specs.Reading.{bound_at, bound_from, type_in, value_in}
 use Rattle.dbpl_database.specs.Spelling.{bound_bytes, bound_fits}
@@ -94,6 +95,26 @@ bound_from-completes bound typed fits =
     let typed_fits = second_so _ (type_fits bound.kind) (first_so _ (count_fits (type_bytes bound.kind)) fits3) in
     rw (type_in-completes bound.kind type typed_fits, value_in-completes bound.kind bound.rel type of value, typed) refl
 
+-- a string is read from its spelling
+front : (xs rest : List ℕ) → take (length xs) (xs ++ rest) ≡ xs
+front [] rest = refl
+front (x ∷ xs) rest = ap (λ (ys : List ℕ). x ∷ ys) (front xs rest)
+
+behind : (xs rest : List ℕ) → drop (length xs) (xs ++ rest) ≡ rest
+behind [] rest = refl
+behind (x ∷ xs) rest = behind xs rest
+
+name-again : (name rest : List ℕ) → count_fits name ≡ true → name_at (name_bytes name ++ rest) ≡ Some (name, rest)
+name-again name rest fits =
+    let count : word_at (name_bytes name ++ rest) ≡ Some (length name, name ++ rest) =
+    ap (λ (bytes : List ℕ). word_at bytes) (append_assoc (count_bytes name) name rest)
+    ∙ word_at-again (length name) (name ++ rest) (ltb-true (length name) (2 ^ 32) fits)
+    in
+    let text : bytes_at (length name) (name ++ rest) ≡ Some (name, rest) =
+    bytes_long (length name) (name ++ rest) (omega (arith, length-append name rest)) ∙ rw (front name rest, behind name rest) refl
+    in
+    name_steps (name_bytes name ++ rest) ∙ ap (λ (r : Option (ℕ × List ℕ)). r >>= λ n. bytes_at n.0 n.1) count ∙ text
+
 -- the three strings of a relation variable, one after the other
 abbrev behind_kind : Strings → Strings → Strings → Option (Bound × List ℕ)
 behind_kind name kind rel = bound_from name.0 kind.0 rel.0 >>= λ bound. Some (bound, rel.1)
@@ -118,9 +139,9 @@ bound-completes bound rest typed fits =
     append_assoc (name_bytes bound.name) (name_bytes kind ++ name_bytes rel) rest
     ∙ ap (λ (bs : List ℕ). name_bytes bound.name ++ bs) (append_assoc (name_bytes kind) (name_bytes rel) rest)
     in
-    let first = name-completes bound.name (name_bytes kind ++ (name_bytes rel ++ rest)) refl fits_name in
-    let second = name-completes kind (name_bytes rel ++ rest) refl fits_kind in
-    let third = name-completes rel rest refl fits_rel in
+    let first = name-again bound.name (name_bytes kind ++ (name_bytes rel ++ rest)) fits_name in
+    let second = name-again kind (name_bytes rel ++ rest) fits_kind in
+    let third = name-again rel rest fits_rel in
     ap (λ (bs : List ℕ). name_at bs >>= all_strings) shape
     ∙ ap (λ (r : Option Strings). r >>= all_strings) first
     ∙ ap (λ (r : Option Strings). r >>= behind_name (bound.name, name_bytes kind ++ (name_bytes rel ++ rest))) second
