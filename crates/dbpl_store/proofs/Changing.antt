@@ -207,9 +207,9 @@ whole-of database items bound at other e some same sound =
     let this = list_all-slice_get is_bound database at b (first_so (list_all is_bound database) _ sound) got.1 in
     let there : get_or items at other ≡ b = rw same (get_or_from_slice_get database at b other got.1) in
     rw (e, got.1, there) (
-    second_so (is_kept b.name b.kind) (is_of b.kind b.rel)
-    (first_so (is_kept b.name b.kind && is_of b.kind b.rel) (are_small b.kind b.rel) this),
-    second_so (is_kept b.name b.kind && is_of b.kind b.rel) (are_small b.kind b.rel) this,
+      second_so (is_kept b.name b.kind) (is_of b.kind b.rel)
+          (first_so (is_kept b.name b.kind && is_of b.kind b.rel) (are_small b.kind b.rel) this),
+      second_so (is_kept b.name b.kind && is_of b.kind b.rel) (are_small b.kind b.rel) this,
     )
 
 -- ---- taken back

@@ -1,13 +1,13 @@
 //! A store over a world in memory, by its bytes as its form says them.
 ghost use Rattle.std.specs.Prelude.{◌≡◌, IfSome, IsSome, IsTrue, false};
-ghost use Rattle.dbpl_database.specs.Databases.{is_bound};
+ghost use Rattle.dbpl_database.specs.Databases.{are_small, is_bound, is_kept};
 ghost use Rattle.dbpl_store.specs.Stores.{is_running};
+ghost use Rattle.dbpl_value.specs.Values.{is_of};
 ghost use Rattle.dbpl_world.specs.InMemory.{mounted_in};
 
 use crate::{CreateErr, Store, StoreErr, create, open};
-use dbpl_base::Memory;
 use dbpl_database::read_database;
-use dbpl_value::{Bound, field_of};
+use dbpl_value::{Bound, Field, Value, field_of};
 use dbpl_world::{Failed, MemoryWorld, Part, World};
 use std::alloc::Global;
 use std::test::Fail;
@@ -63,32 +63,36 @@ fn is_log(alloc: Global, world: &mut MemoryWorld, want: &[u8]) -> bool
 
 /// The last relation variable of a database.
 fn variable(alloc: Global, bytes: &[u8]) -> Option<Bound>
-    ensures bound { IfSome result (λ bound. IsTrue (is_bound bound)) }
+    ensures { IfSome result (λ bound. IsTrue (is_bound bound)) }
 {
-    let mut database = read_database(alloc, bytes).ok()?;
-    database.pop()
+    match read_database(alloc, bytes) {
+        Ok(mut database) => database.pop(),
+        Err(_) => None,
+    }
 }
 
-/// Binds the variable, and puts its relation there in a transaction. Nothing where it isn't bound.
+/// Binds the variable, and puts a relation there in a transaction. Nothing where it isn't bound.
 fn keep(
     alloc: Global,
     world: &mut MemoryWorld,
     store: &mut Store,
-    bound: Bound,
+    field: &Field,
+    relation: Value,
 ) -> Option<Result<(), Failed>>
     requires mounted { IsSome (mounted_in world.old) }
     requires still { is_running store.old ≡ false }
-    requires bound { IsTrue (is_bound bound) }
+    requires kept { IsTrue (is_kept field.now.name field.now.kind) }
+    requires of { IsTrue (is_of field.now.kind relation) }
+    requires small { IsTrue (are_small field.now.kind relation) }
     ensures mounted { IsSome (mounted_in world.new) }
 {
-    let Bound { name, kind, rel } = bound;
-    match store.bind(alloc, &field_of(name, kind)) {
-        Ok(true) => {
-            store.begin();
-            store.replace_all(alloc, rel).ok()?;
-            Some(store.commit(world))
-        }
-        _ => None,
+    let Ok(true) = store.bind(alloc, field) else {
+        return None;
+    };
+    store.begin();
+    match store.replace_all(alloc, relation) {
+        Ok(()) => Some(store.commit(world)),
+        Err(_) => None,
     }
 }
 
@@ -102,7 +106,8 @@ fn run(alloc: Global, world: &mut MemoryWorld, bytes: &[u8]) -> Option<usize>
     let Ok(mut store) = open(alloc, world) else {
         return Some(1);
     };
-    match keep(alloc, world, &mut store, bound) {
+    let Bound { name, kind, rel } = bound;
+    match keep(alloc, world, &mut store, &field_of(name, kind), rel) {
         None => Some(2),
         Some(Err(Failed)) => Some(3),
         Some(Ok(())) => Some(4),
