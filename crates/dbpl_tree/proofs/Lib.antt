@@ -5,3 +5,4 @@ pub mod Lexemes
 pub mod Mapped
 pub mod StatementLevels
 pub mod UnitExamples
+pub mod WordExamples

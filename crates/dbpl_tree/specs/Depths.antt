@@ -66,7 +66,7 @@ arguments_depth n a = option_depth (exprs_depth n) a.exprs
 
 -- ---- factors and what stands in them
 
--- what gives the depth of each of the five
+-- what gives the depth of an element, a factor, a range, an aggregate and an EACH, whatever they are held as
 pub record Depth (E F R A C : Type 0) : Type 0 where
   pub element : E → ℕ
   pub factor : F → ℕ
@@ -103,7 +103,7 @@ abbrev pub range_depth_level : {E F R A C : Type 0} → Depth E F R A C → Rang
 range_depth_level d (phrases.Range::Designator x) = suc (designator_depth d.factor x)
 range_depth_level d (phrases.Range::Aggregate a) = suc (d.aggregate a)
 
--- where the depths stand already
+-- for a level whose parts are depths already: each as it is
 abbrev pub counted : Depth ℕ ℕ ℕ ℕ ℕ
 counted = record {
   element = λ depth. depth;

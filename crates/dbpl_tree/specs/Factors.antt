@@ -13,7 +13,7 @@ use Rattle.dbpl_tree.specs.declared.element.Element.TheOpen as phrases
 use Rattle.dbpl_tree.specs.declared.factor.Factor.{Factor, Factor-F, fold-Factor}
 use Rattle.dbpl_tree.specs.declared.range.Range.{Range, Range-F, fold-Range}
 
--- what gives the marks of each of the five
+-- what gives the marks of an element, a factor, a range, an aggregate and an EACH, whatever they are held as
 pub record Spelling (E F R A C : Type 0) : Type 0 where
   pub element : E → List Mark
   pub factor : F → List Mark
@@ -52,7 +52,7 @@ abbrev pub range_level : {E F R A C : Type 0} → Spelling E F R A C → Range-F
 range_level s (phrases.Range::Designator d) = designator_marks s.factor d
 range_level s (phrases.Range::Aggregate a) = s.aggregate a
 
--- where the marks stand already
+-- for a level whose parts are marks already: each as it is
 abbrev pub spelled : Spelling (List Mark) (List Mark) (List Mark) (List Mark) (List Mark)
 spelled = record {
   element = λ marks. marks;

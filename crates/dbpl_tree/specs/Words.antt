@@ -1,9 +1,9 @@
--- The lexemes that the spelling of a tree is made of.
+-- The words and signs that trees are spelled with, and three names that the language has.
 use Rattle.std.specs.Prelude.{ℕ, List, codes}
 use Rattle.dbpl_base.specs.declared.lexeme.Lexeme.{Lexeme}
 use Rattle.dbpl_base.specs.declared.lexeme.Lexeme.TheVariants.{Reserved, Sign}
 
--- the names that a module imports from InOut
+-- the module that prints, and two of its procedures
 unfoldable pub in_out : List ℕ
 in_out = codes "InOut"
 

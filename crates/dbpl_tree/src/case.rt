@@ -1,7 +1,7 @@
 use crate::{Expr, Statement, StatementsOf};
 use dbpl_base::{List, Place};
 
-/// A branch of CASE, or an empty phrase between two bars.
+/// A branch of CASE, or nothing.
 #[derive(Debug, Drop)]
 pub enum CaseOf<S> {
     /// With the place of the token behind it.

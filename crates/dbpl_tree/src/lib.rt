@@ -1,10 +1,11 @@
 //! The syntax tree of a text: one type for each production of the grammar, with its parts in the order of the text.
-//! A struct that only holds what a loop of the grammar leads back to is generic in that, and has its production's
-//! name without `Of`.
+//! A name with `Of` is generic in the type by which the grammar leads back: `ExprOf<F>` in its factors, `StatementsOf<S>`
+//! in its statements. `Expr` is `ExprOf<Factor>`, `Statements` is `StatementsOf<Statement>`.
 #![tactic(auto)]
 
 mod aggregate;
 mod case;
+mod copies;
 mod decl;
 mod designator;
 mod each;
@@ -24,6 +25,7 @@ mod unit;
 
 pub use aggregate::Aggregate;
 pub use case::{Case, CaseOf, Label};
+pub use copies::copy_unit;
 pub use decl::{Common, ConstDecl, Decl, DefinitionItem, PlainDecl, Routine, TypeDecl, VarDecl};
 pub use designator::{Arguments, ArgumentsOf, Designator, DesignatorOf, Part, PartOf};
 pub use each::Each;

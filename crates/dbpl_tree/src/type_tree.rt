@@ -18,7 +18,7 @@ pub enum TypeTree {
     Relation(Place, Idents, Qual),
 }
 
-/// The fields of one type in a record, or an empty phrase between two semicolons.
+/// The fields of one type in a record, or nothing.
 #[derive(Debug, Drop)]
 pub enum FieldsOf<T> {
     /// With the place of the token behind it.
