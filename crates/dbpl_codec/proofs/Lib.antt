@@ -3,6 +3,8 @@ pub mod KeyBytes
 pub mod TypeBytes
 pub mod TypeKinds
 pub mod FieldNames
+pub mod SortedNames
+pub mod KeyFields
 pub mod ValueBytes
 pub mod Rising
 pub mod ReadingSteps

@@ -9,6 +9,7 @@ ghost use Rattle.dbpl_codec.specs.TypeSpelling.{type_bytes, type_fits};
 use crate::ReadErr;
 use crate::rules::{are_relations_within, is_sound};
 use crate::type_reads::type_at;
+use dbpl_base::Memory;
 use dbpl_value::DbType;
 use std::alloc::Global;
 
@@ -28,7 +29,7 @@ pub fn read_type(alloc: Global, bytes: &[u8]) -> Result<DbType, ReadErr>
         Gives (λ u. u) result (Some t) }
 {
     let t = whole_type(alloc, bytes)?;
-    if keeps_rules(&t) {
+    if keeps_rules(alloc, &t)? {
         Ok(t)
     } else {
         Err(ReadErr::Malformed)
@@ -36,10 +37,10 @@ pub fn read_type(alloc: Global, bytes: &[u8]) -> Result<DbType, ReadErr>
 }
 
 /// All rules but that on the depth, which reading keeps.
-fn keeps_rules(t: &DbType) -> bool
-    ensures { result ≡ (is_sound_type t.now && nat_le (relations_of t.now) 8) }
+fn keeps_rules(alloc: Global, t: &DbType) -> Result<bool, Memory>
+    ensures { IfOk result (λ answer. answer ≡ (is_sound_type t.now && nat_le (relations_of t.now) 8)) }
 {
-    is_sound(t) && are_relations_within(t, RELATIONS)
+    Ok(is_sound(alloc, t)? && are_relations_within(t, RELATIONS))
 }
 
 fn whole_type(alloc: Global, bytes: &[u8]) -> Result<DbType, ReadErr>

@@ -2,7 +2,9 @@
 #![tactic(auto)]
 
 mod descriptors;
+mod different;
 mod fronts;
+mod key_fields;
 mod keys;
 mod laws;
 mod names;

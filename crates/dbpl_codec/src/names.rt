@@ -1,35 +1,50 @@
 //! The names in a descriptor: identifiers, none twice, and keys that are fields.
-ghost use Rattle.std.specs.Prelude.{◌≡◌, ◌&&◌, not, map};
-ghost use Rattle.std.specs.List.{list_all, list_any};
+ghost use Rattle.std.specs.Prelude.{◌≡◌, ◌&&◌, IfOk, not, map};
+ghost use Rattle.std.specs.List.{list_all};
 ghost use Rattle.dbpl_base.specs.Words as bytes;
-ghost use Rattle.dbpl_value.specs.Types.{are_different as are_different_names, are_names as are_names_of, is_char_array as is_char_array_type, is_identifier as is_identifier_name, is_key_field as is_key_field_of, is_none_left, is_same_name};
+ghost use Rattle.dbpl_value.specs.Types.{are_names, is_identifier as is_identifier_name, is_none_left, is_relation as is_relation_of};
 
-use dbpl_base::Name;
-use dbpl_value::{DbType, Field, range_of};
+use crate::different::{are_different, are_fields_different};
+use crate::key_fields::are_key_fields;
+use dbpl_base::{Memory, Name};
+use dbpl_value::{DbType, Field, fields_of};
+use std::alloc::Global;
 
-/// Identifiers, and none stands there twice.
-pub(crate) fn are_names(names: &[Name]) -> bool
-    ensures { result ≡ are_names_of names.now }
+/// One constant or more, identifiers, and none twice.
+pub(crate) fn are_constants(alloc: Global, names: &[Name]) -> Result<bool, Memory>
+    ensures { IfOk result (λ answer. answer ≡ (not (is_none_left names.now) && are_names names.now)) }
 {
-    are_identifiers(names) && are_different(names)
+    if names.is_empty() || !are_identifiers(names) {
+        return Ok(false);
+    }
+    are_different(alloc, names)
 }
 
 /// Fields whose names are identifiers, none twice.
-pub(crate) fn are_field_names(fields: &[Field]) -> bool
-    ensures { result ≡ are_names_of (map (λ field. field.name) fields.now) }
+pub(crate) fn are_field_names(alloc: Global, fields: &[Field]) -> Result<bool, Memory>
+    ensures { IfOk result (λ answer. answer ≡ are_names (map (λ field. field.name) fields.now)) }
 {
-    have_identifiers(fields) && are_fields_different(fields)
+    if !have_identifiers(fields) {
+        return Ok(false);
+    }
+    are_fields_different(alloc, fields)
 }
 
-/// One key or more, each of them a field that may be one, and none twice.
-pub(crate) fn are_keys(keys: &[Name], fields: &[Field]) -> bool
-    ensures { result ≡ (not (is_none_left keys.now) && are_different_names keys.now
-        && list_all (λ key. list_any (is_key_field_of key) fields.now) keys.now) }
+/// A record type, and one key or more, different fields of it.
+pub(crate) fn is_relation(
+    alloc: Global,
+    keys: &[Name],
+    record_type: &DbType,
+) -> Result<bool, Memory>
+    ensures { IfOk result (λ answer. answer ≡ is_relation_of keys.now record_type.now) }
 {
-    if keys.is_empty() {
-        return false;
+    if !matches!(record_type, DbType::Rec(_)) || keys.is_empty() {
+        return Ok(false);
     }
-    are_different(keys) && are_key_fields(keys, fields)
+    if !are_different(alloc, keys)? {
+        return Ok(false);
+    }
+    are_key_fields(alloc, keys, fields_of(record_type))
 }
 
 fn are_identifiers(names: &[Name]) -> bool
@@ -70,68 +85,4 @@ fn is_word_byte(byte: &u8) -> bool
     ensures { result ≡ bytes.is_word_byte byte.now }
 {
     byte.is_ascii_alphanumeric()
-}
-
-fn are_different(names: &[Name]) -> bool
-    ensures { result ≡ are_different_names names.now }
-{
-    for i in 0..names.len() {
-        if stands_in(&names[i], names.split_at(i + 1).1) {
-            return false;
-        }
-    }
-    true
-}
-
-fn stands_in(name: &Name, names: &[Name]) -> bool
-    ensures { result ≡ list_any (is_same_name name.now) names.now }
-{
-    names.iter().any(|other| name == other)
-}
-
-fn are_fields_different(fields: &[Field]) -> bool
-    ensures { result ≡ are_different_names (map (λ field. field.name) fields.now) }
-{
-    for i in 0..fields.len() {
-        if names_one(&fields[i].name, fields.split_at(i + 1).1) {
-            return false;
-        }
-    }
-    true
-}
-
-/// Whether one of the fields has this name.
-fn names_one(name: &Name, fields: &[Field]) -> bool
-    ensures { result ≡ list_any (λ field. is_same_name name.now field.name) fields.now }
-{
-    fields.iter().any(|field| *name == field.name)
-}
-
-fn are_key_fields(keys: &[Name], fields: &[Field]) -> bool
-    ensures { result ≡ list_all (λ key. list_any (is_key_field_of key) fields.now) keys.now }
-{
-    keys.iter().all(|key| is_key(key, fields))
-}
-
-/// A field of this name that may be a key.
-fn is_key(key: &Name, fields: &[Field]) -> bool
-    ensures { result ≡ list_any (is_key_field_of key.now) fields.now }
-{
-    fields.iter().any(|field| is_key_field(key, field))
-}
-
-fn is_key_field(key: &Name, field: &Field) -> bool
-    ensures { result ≡ is_key_field_of key.now field.now }
-{
-    *key == field.name && (range_of(&field.kind).is_some() || is_char_array(&field.kind))
-}
-
-/// An array whose elements are CHAR itself.
-fn is_char_array(t: &DbType) -> bool
-    ensures { result ≡ is_char_array_type t.now }
-{
-    match t {
-        DbType::Arr(_, element) => matches!(element.get(), DbType::Char),
-        _ => false,
-    }
 }

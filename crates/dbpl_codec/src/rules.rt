@@ -1,74 +1,80 @@
 //! Whether a descriptor keeps the rules of types: what stands inside it, how many scalars it has, and how deep its
 //! relations stand inside one another.
-ghost use Rattle.std.specs.Prelude.{◌≡◌, ◌&&◌, ◌^◌, ◌-◌, false, min, nat_le};
+ghost use Rattle.std.specs.Prelude.{◌≡◌, ◌&&◌, ◌^◌, ◌-◌, IfOk, false, min, nat_le};
 ghost use Rattle.std.specs.List.{list_all};
 ghost use Rattle.dbpl_value.specs.Types.{count_of as count_of_type, is_in, is_host as is_host_type, is_sound as is_sound_type, is_sound_level, is_subrange as is_subrange_of, keeps_rules as keeps_rules_of, relations_of, scalars_of as scalars_of_type};
 ghost use Rattle.std.specs.Option.{option_map_or};
 ghost use Rattle.dbpl_value.specs.declared.db_type.DbType.{out-DbType};
 ghost use Rattle.dbpl_value.specs.declared.db_type.DbType.TheVariants as types;
 
-use crate::names::{are_field_names, are_keys, are_names};
-use dbpl_value::{DbType, Field, Range, count_of, fields_of, range_of};
+use crate::names::{are_constants, are_field_names, is_relation};
+use dbpl_base::Memory;
+use dbpl_value::{DbType, Field, Range, count_of, range_of};
+use std::alloc::Global;
 
 /// How many scalars a value may have.
 const SCALARS: u64 = 65_536;
 
 /// It and every type inside it keeps the rules.
 #[cycle(soundness)]
-pub(crate) fn is_sound(t: &DbType) -> bool
-    ensures { result ≡ is_sound_type t.now }
+pub(crate) fn is_sound(alloc: Global, t: &DbType) -> Result<bool, Memory>
+    ensures { IfOk result (λ answer. answer ≡ is_sound_type t.now) }
 {
-    if !keeps_rules(t) {
-        return false;
+    if !keeps_rules(alloc, t)? {
+        return Ok(false);
     }
     match t {
-        DbType::Sub(host, _, _) => is_sound(host.get()),
-        DbType::Arr(index, element) => is_sound(index.get()) && is_sound(element.get()),
-        DbType::Rec(fields) => are_sound(fields.as_slice()),
-        DbType::Rel(_, record) => is_sound(record.get()),
-        _ => true,
+        DbType::Sub(host, _, _) => is_sound(alloc, host.get()),
+        DbType::Arr(index, element) => {
+            if !is_sound(alloc, index.get())? {
+                return Ok(false);
+            }
+            is_sound(alloc, element.get())
+        }
+        DbType::Rec(fields) => are_sound(alloc, fields.as_slice()),
+        DbType::Rel(_, record) => is_sound(alloc, record.get()),
+        _ => Ok(true),
     }
 }
 
 #[cycle(soundness)]
-fn are_sound(fields: &[Field]) -> bool
-    ensures { result ≡ list_all (λ field. is_sound_type field.kind) fields.now }
+fn are_sound(alloc: Global, fields: &[Field]) -> Result<bool, Memory>
+    ensures { IfOk result (λ answer. answer ≡ list_all (λ field. is_sound_type field.kind) fields.now) }
 {
     for field in fields {
-        if !is_sound(&field.kind) {
-            return false;
+        if !is_sound(alloc, &field.kind)? {
+            return Ok(false);
         }
     }
-    true
+    Ok(true)
 }
 
-/// The scalars are counted first, so that names are compared with one another in no record of more than 65,536 fields.
-fn keeps_rules(t: &DbType) -> bool
-    ensures { result ≡ keeps_rules_of t.now }
+fn keeps_rules(alloc: Global, t: &DbType) -> Result<bool, Memory>
+    ensures { IfOk result (λ answer. answer ≡ keeps_rules_of t.now) }
 {
-    scalars_of(t) <= SCALARS && is_level_sound(t)
+    if scalars_of(t) > SCALARS {
+        return Ok(false);
+    }
+    is_level_sound(alloc, t)
 }
 
 /// What a descriptor keeps, apart from what stands in it.
-fn is_level_sound(t: &DbType) -> bool
-    ensures { result ≡ is_sound_level (out-DbType t.now) }
+fn is_level_sound(alloc: Global, t: &DbType) -> Result<bool, Memory>
+    ensures { IfOk result (λ answer. answer ≡ is_sound_level (out-DbType t.now)) }
 {
     match t {
-        DbType::Enum(names) => !names.as_slice().is_empty() && are_names(names.as_slice()),
+        DbType::Enum(names) => are_constants(alloc, names.as_slice()),
         DbType::Sub(host, least, greatest) => {
             let range = Range {
                 least: *least,
                 greatest: *greatest,
             };
-            is_subrange(host.get(), range)
+            Ok(is_subrange(host.get(), range))
         }
-        DbType::Arr(index, _) => range_of(index.get()).is_some(),
-        DbType::Rec(fields) => are_field_names(fields.as_slice()),
-        DbType::Rel(keys, record) => {
-            matches!(record.get(), DbType::Rec(_))
-                && are_keys(keys.as_slice(), fields_of(record.get()))
-        }
-        _ => true,
+        DbType::Arr(index, _) => Ok(range_of(index.get()).is_some()),
+        DbType::Rec(fields) => are_field_names(alloc, fields.as_slice()),
+        DbType::Rel(keys, record) => is_relation(alloc, keys.as_slice(), record.get()),
+        _ => Ok(true),
     }
 }
 

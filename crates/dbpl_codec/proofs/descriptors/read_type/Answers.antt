@@ -8,15 +8,15 @@ returns-in_err-t-clause-only c = λ t type fits e.
     let p = err_from_is_err_and c.from_residual.result c.from_residual.ensures.1 in
     rw (p.1, p.2) (λ ne. sym (type_read t c.args.bytes.now type fits e) ∙ c.in_err-t.ensures ne)
 
-pub returns-then-keeps_rules-clause-found : goal.returns-then-keeps_rules-clause-found
-returns-then-keeps_rules-clause-found c =
+pub returns-then-branch-clause-found : goal.returns-then-branch-clause-found
+returns-then-branch-clause-found c =
     type_found c.in_ok-t.t c.args.bytes.now (λ i. omega (arith, c.type_inv.bytes i)) c.in_ok-t.ensures
-    (sym c.keeps_rules.ensures ∙ c.if-keeps_rules.true)
+    (sym c.in_ok-keeps_rules.ensures ∙ c.if-branch.true)
 
-pub returns-then-keeps_rules-clause-only : goal.returns-then-keeps_rules-clause-only
-returns-then-keeps_rules-clause-only c = λ t type fits e. sym (type_read t c.args.bytes.now type fits e) ∙ c.in_ok-t.ensures
+pub returns-then-branch-clause-only : goal.returns-then-branch-clause-only
+returns-then-branch-clause-only c = λ t type fits e. sym (type_read t c.args.bytes.now type fits e) ∙ c.in_ok-t.ensures
 
-pub returns-else-keeps_rules-clause-only : goal.returns-else-keeps_rules-clause-only
-returns-else-keeps_rules-clause-only c = λ t type fits e ne.
+pub returns-else-branch-clause-only : goal.returns-else-branch-clause-only
+returns-else-branch-clause-only c = λ t type fits e ne.
     absurd (unkept t c.in_ok-t.t c.args.bytes.now c.in_ok-t.ensures type fits e
-    (sym c.keeps_rules.ensures ∙ c.if-keeps_rules.false))
+    (sym c.in_ok-keeps_rules.ensures ∙ c.if-branch.false))
