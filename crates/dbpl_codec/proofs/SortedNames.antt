@@ -94,10 +94,12 @@ are_different-permutation xs ys p =
 
 -- ---- neighbours in a sorted list
 
-is_lt-not : (x y : Name) (o : Ordering) → compared x y ≡ o → is_lt (compared y x) ≡ false → is_same_name x y ≡ false → compared x y ≡ Less
-is_lt-not x y Less e falls other = e
-is_lt-not x y Equal e falls other = absurd (both_ways (is_same_name x y) other (texts_ties x y ∙ ap is_eq e))
-is_lt-not x y Greater e falls other =
+rises :
+    (x y : Name) (o : Ordering) → compared x y ≡ o → is_lt (compared y x) ≡ false → is_same_name x y ≡ false →
+    compared x y ≡ Less
+rises x y Less e falls other = e
+rises x y Equal e falls other = absurd (both_ways (is_same_name x y) other (texts_ties x y ∙ ap is_eq e))
+rises x y Greater e falls other =
     absurd (both_ways (is_lt (compared y x)) falls
     (ap is_lt (nat_list_cmp_total.antisymm y x ∙ ap ordering_reverse e)))
 
@@ -117,6 +119,13 @@ module _ {K : Type 0} (name_of : K → Name) where
       (x : K) (xs : List K) → AllAdjacentBelow Differ (x ∷ xs) (length (x ∷ xs)) → AllAdjacentBelow Differ xs (length xs)
   differ-tail x xs h k d within = rw (add-one k) (simp unary_clauses at (h (suc k) d (omega arith)))
 
+  first-rises :
+      (x y : K) (ys : List K) → Sorted (x ∷ y ∷ ys) → AllAdjacentBelow Differ (x ∷ y ∷ ys) (length (x ∷ y ∷ ys)) →
+      compared (name_of x) (name_of y) ≡ Less
+  first-rises x y ys sorted differ =
+      rises (name_of x) (name_of y) (compared (name_of x) (name_of y)) refl (sorted 0 x (omega arith) (omega arith))
+      (differ 0 x (omega arith))
+
   -- a name below the first stands nowhere among them
   below : (name : Name) (x : K) (xs : List K) → compared name (name_of x) ≡ Less → Sorted (x ∷ xs) →
       AllAdjacentBelow Differ (x ∷ xs) (length (x ∷ xs)) → list_any (is_same_name name) (map name_of (x ∷ xs)) ≡ false
@@ -125,27 +134,19 @@ module _ {K : Type 0} (name_of : K → Name) where
   below name x (y ∷ ys) less sorted differ =
       or_from (is_same_name name (name_of x)) (list_any (is_same_name name) (map name_of (y ∷ ys)))
       (texts_ties name (name_of x) ∙ ap is_eq less)
-      (below name y ys (nat_list_cmp_total.trans name (name_of x) (name_of y) less step)
+      (below name y ys (nat_list_cmp_total.trans name (name_of x) (name_of y) less (first-rises x y ys sorted differ))
       (sorted-tail x (y ∷ ys) sorted) (differ-tail x (y ∷ ys) differ))
-    where
-      step : compared (name_of x) (name_of y) ≡ Less
-      step =
-          is_lt-not (name_of x) (name_of y) (compared (name_of x) (name_of y)) refl
-          (sorted 0 x (omega arith) (omega arith)) (differ 0 x (omega arith))
 
+  -- names in order, of which no two neighbours are equal, are different
   pub different-sorted :
       (xs : List K) → Sorted xs → AllAdjacentBelow Differ xs (length xs) → are_different (map name_of xs) ≡ true
   different-sorted [] sorted differ = refl
   different-sorted (x ∷ []) sorted differ = refl
   different-sorted (x ∷ y ∷ ys) sorted differ =
       and_from (not (list_any (is_same_name (name_of x)) (map name_of (y ∷ ys)))) (are_different (map name_of (y ∷ ys)))
-      (not_from_false _ (below (name_of x) y ys step (sorted-tail x (y ∷ ys) sorted) (differ-tail x (y ∷ ys) differ)))
+      (not_from_false _ (below (name_of x) y ys (first-rises x y ys sorted differ) (sorted-tail x (y ∷ ys) sorted)
+      (differ-tail x (y ∷ ys) differ)))
       (different-sorted (y ∷ ys) (sorted-tail x (y ∷ ys) sorted) (differ-tail x (y ∷ ys) differ))
-    where
-      step : compared (name_of x) (name_of y) ≡ Less
-      step =
-          is_lt-not (name_of x) (name_of y) (compared (name_of x) (name_of y)) refl
-          (sorted 0 x (omega arith) (omega arith)) (differ 0 x (omega arith))
 
   different-from :
       (xs : List K) (k : ℕ) (d e : K) → k + 1 < length xs →
@@ -157,6 +158,7 @@ module _ {K : Type 0} (name_of : K → Name) where
       and_right (not (list_any (is_same_name (name_of x)) (map name_of (y ∷ ys)))) (are_different (map name_of (y ∷ ys)))
       (different-from (y ∷ ys) k d e (omega arith) (rw (add-one k) (simp unary_clauses at same)))
 
+  -- and where two are, they aren't
   pub different-not :
       (xs : List K) (i : ℕ) (d e : K) → 1 ≤ i → i < length xs →
       is_same_name (name_of (get_or xs (i - 1) d)) (name_of (get_or xs i e)) ≡ true → are_different (map name_of xs) ≡ false
@@ -182,14 +184,9 @@ any-map :
 any-map p f [] = refl
 any-map p f (x ∷ xs) = ap (λ (b : Bool). p (f x) || b) (any-map p f xs)
 
-equal-same : (name other : Name) → compared other name ≡ Equal → is_same_name name other ≡ true
-equal-same name other e = texts_ties name other ∙ ap is_eq (nat_list_cmp_total.antisymm name other ∙ ap ordering_reverse e)
-
-less-other : (name other : Name) → compared other name ≡ Less → is_same_name name other ≡ false
-less-other name other e = texts_ties name other ∙ ap is_eq (nat_list_cmp_total.antisymm name other ∙ ap ordering_reverse e)
-
-greater-other : (name other : Name) → compared other name ≡ Greater → is_same_name name other ≡ false
-greater-other name other e = texts_ties name other ∙ ap is_eq (nat_list_cmp_total.antisymm name other ∙ ap ordering_reverse e)
+same-order :
+    (name other : Name) (o : Ordering) → compared other name ≡ o → is_same_name name other ≡ is_eq (ordering_reverse o)
+same-order name other o e = texts_ties name other ∙ ap is_eq (nat_list_cmp_total.antisymm name other ∙ ap ordering_reverse e)
 
 module _ {K : Type 0} (name_of : K → Name) where
   found-at :
@@ -197,7 +194,7 @@ module _ {K : Type 0} (name_of : K → Name) where
       list_any (λ (x : K). is_same_name name (name_of x)) xs ≡ true
   found-at name [] i within here = absurd (omega arith)
   found-at name (x ∷ xs) i within here =
-      list_any_at (λ (y : K). is_same_name name (name_of y)) (x ∷ xs) i x within (equal-same name _ (here x))
+      list_any_at (λ (y : K). is_same_name name (name_of y)) (x ∷ xs) i x within (same-order name _ Equal (here x))
 
   -- a binary search finds a name exactly where it stands there
   pub found :
@@ -213,5 +210,5 @@ module _ {K : Type 0} (name_of : K → Name) where
       by_side :
           IsPartitionPoint (λ y. compared (name_of y) name ≡ Less) (λ y. compared (name_of y) name ≡ Greater) xs i →
           (k : ℕ) (d : K) → k < length xs → (k < i) ⊎ (i ≤ k) → is_same_name name (name_of (get_or xs k d)) ≡ false
-      by_side split k d inside (inl before) = less-other name _ (split.0 k d (omega arith) before)
-      by_side split k d inside (inr behind) = greater-other name _ (split.1 k d behind inside)
+      by_side split k d inside (inl before) = same-order name _ Less (split.0 k d (omega arith) before)
+      by_side split k d inside (inr behind) = same-order name _ Greater (split.1 k d behind inside)
