@@ -1,5 +1,5 @@
 -- Runs that change nothing but the log.
-use Rattle.std.proofs.Common.{◌≡◌, ℕ, ◌⊎◌, inl, inr, List, [], ◌∷◌, length, refl, sym, ap, subst, ◌∙◌}
+use Rattle.std.proofs.Common.{◌≡◌, ℕ, inl, inr, List, [], ◌∷◌, refl, sym, ap, subst, ◌∙◌}
 use Rattle.dbpl_world.specs.declared.part.Part.TheVariants.{Log, Pages}
 use Rattle.dbpl_world.specs.Images.{PartState, settled, after_write, after_failed_write}
 use Rattle.dbpl_world.specs.History.{State, Event, Wrote, Smeared, Synced, step, History, more, now}

@@ -1,5 +1,5 @@
 -- Where a store may be made, and what stands there while it is.
-use Rattle.std.specs.Prelude.{◌≡◌, ◌⊎◌, ℕ, ◌<◌, ◌≤◌, Bool, IsTrue, List, [], ◌∷◌, ◌++◌, length, drop, slice_index, Some}
+use Rattle.std.specs.Prelude.{◌≡◌, ◌⊎◌, ℕ, ◌<◌, ◌≤◌, Bool, IsTrue, List, ◌∷◌, ◌++◌, length, drop, slice_index, Some}
 use Rattle.dbpl_world.specs.History.{Store}
 use Rattle.dbpl_log.specs.Records.{open_head, HasText, HasHead, records_of}
 
