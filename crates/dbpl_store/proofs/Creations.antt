@@ -1,5 +1,5 @@
 -- What a create leaves, as databases.
-use Rattle.std.proofs.Common.{◌≡◌, ◌⊎◌, inl, inr, ℕ, List, [], ◌∷◌, drop, Option, Some, None, Result, Ok, Err, OnOk, refl, sym, ap, subst, ◌∙◌}
+use Rattle.std.proofs.Common.{◌≡◌, ◌⊎◌, inl, inr, ℕ, Bool, true, false, IsTrue, List, [], ◌∷◌, drop, Option, Some, None, Result, Ok, Err, OnOk, refl, ap, subst, ◌∙◌}
 use Rattle.std.specs.Prelude.{slice_index}
 use Rattle.std.specs.Option.{option_and_then}
 use Rattle.dbpl_log.specs.Beginning.{HasSuch, IsBegun}
@@ -18,44 +18,58 @@ use Rattle.dbpl_world.specs.History.{History, ReadsAnImage, State, now}
 use Rattle.dbpl_world.specs.Images.{IsImage}
 use Rattle.dbpl_world.specs.Moments.{EachMoment}
 
--- records that stand for the empty database
-abbrev pub AreNone : List (List ℕ) → Type 0
-AreNone records = newest [] records ≡ Some []
+-- the test that a database is the empty one
+abbrev is_none : Option (List Bound) → Bool
+is_none None = false
+is_none (Some []) = true
+is_none (Some (first ∷ others)) = false
+
+none-passes : (found : Option (List Bound)) → found ≡ Some [] → IsTrue (is_none found)
+none-passes found none = rw none refl
+
+passes-none : (found : Option (List Bound)) → IsTrue (is_none found) → found ≡ Some []
+passes-none None passed = absurd cc
+passes-none (Some []) passed = refl
+passes-none (Some (first ∷ others)) passed = absurd cc
+
+-- the test that records stand for it
+abbrev pub are_none : List (List ℕ) → Bool
+are_none records = is_none (newest [] records)
 
 found-none :
     (log : List ℕ) (found : Option (List (List ℕ))) → records_of log ≡ found →
-    option_and_then (newest []) found ≡ Some [] → HasSuch AreNone log
+    option_and_then (newest []) found ≡ Some [] → HasSuch are_none log
 found-none log None has stood = absurd cc
-found-none log (Some records) has stood = (records, has, stood)
+found-none log (Some records) has stood = (records, has, none-passes (newest [] records) stood)
 
-stood-none : (log pages : List ℕ) → stands log pages ≡ Some [] → HasSuch AreNone log
+stood-none : (log pages : List ℕ) → stands log pages ≡ Some [] → HasSuch are_none log
 unfolding stands
 stood-none log pages stood = found-none log (records_of log) refl stood
 
-none-stands : (log pages : List ℕ) → HasSuch AreNone log → stands log pages ≡ Some []
-none-stands log pages (records, has, none) = stands-for log pages records [] has none
+none-stands : (log pages : List ℕ) → HasSuch are_none log → stands log pages ≡ Some []
+none-stands log pages (records, has, none) = stands-for log pages records [] has (passes-none (newest [] records) none)
 
-to-log : (log pages : List ℕ) → MayBegin log pages → LogMayBegin AreNone log
+to-log : (log pages : List ℕ) → MayBegin log pages → LogMayBegin are_none log
 to-log log pages may = record { no_store = may.no_store; harmless = by_cause may.harmless }
   where
     by_cause :
         (HasText log → ⊥) ⊎ ((slice_index log 0 ≡ 0) ⊎ (stands (1 ∷ drop 1 log) pages ≡ Some [])) →
-        (HasText log → ⊥) ⊎ ((slice_index log 0 ≡ 0) ⊎ HasSuch AreNone (1 ∷ drop 1 log))
+        (HasText log → ⊥) ⊎ ((slice_index log 0 ≡ 0) ⊎ HasSuch are_none (1 ∷ drop 1 log))
     by_cause (inl no_text) = inl no_text
     by_cause (inr (inl shut)) = inr (inl shut)
     by_cause (inr (inr none)) = inr (inr (stood-none (1 ∷ drop 1 log) pages none))
 
-from-log : (log pages : List ℕ) → LogMayBegin AreNone log → MayBegin log pages
+from-log : (log pages : List ℕ) → LogMayBegin are_none log → MayBegin log pages
 from-log log pages may = record { no_store = may.no_store; harmless = by_cause may.harmless }
   where
     by_cause :
-        (HasText log → ⊥) ⊎ ((slice_index log 0 ≡ 0) ⊎ HasSuch AreNone (1 ∷ drop 1 log)) →
+        (HasText log → ⊥) ⊎ ((slice_index log 0 ≡ 0) ⊎ HasSuch are_none (1 ∷ drop 1 log)) →
         (HasText log → ⊥) ⊎ ((slice_index log 0 ≡ 0) ⊎ (stands (1 ∷ drop 1 log) pages ≡ Some []))
     by_cause (inl no_text) = inl no_text
     by_cause (inr (inl shut)) = inr (inl shut)
     by_cause (inr (inr none)) = inr (inr (none-stands (1 ∷ drop 1 log) pages none))
 
-begun : (log pages : List ℕ) → IsBegun AreNone log → MayBegin log pages ⊎ (stands log pages ≡ Some [])
+begun : (log pages : List ℕ) → IsBegun are_none log → MayBegin log pages ⊎ (stands log pages ≡ Some [])
 begun log pages (inl may) = inl (from-log log pages may)
 begun log pages (inr none) = inr (none-stands log pages none)
 
@@ -63,10 +77,10 @@ begun log pages (inr none) = inr (none-stands log pages none)
 pub logs-may-begin :
     (s : State) → ReadsAnImage s.disk →
     ((log pages : List ℕ) → IsImage s.disk.log log → IsImage s.disk.pages pages → MayBegin log pages) → (log : List ℕ) →
-    IsImage s.disk.log log → LogMayBegin AreNone log
+    IsImage s.disk.log log → LogMayBegin are_none log
 logs-may-begin s reads may log image = to-log log s.disk.pages.now (may log s.disk.pages.now image reads.pages)
 
-as_begun : (old s : State) → LeavesLog (IsBegun AreNone) old s → LeavesBegun old s
+as_begun : (old s : State) → LeavesLog (IsBegun are_none) old s → LeavesBegun old s
 as_begun old s left = record {
   left = λ log pages image torn. begun log pages (left.log log image);
   pages = left.pages;
@@ -74,10 +88,10 @@ as_begun old s left = record {
 }
 
 pub creation-moments :
-    (h1 h2 : History) → EachMoment (LeavesLog (IsBegun AreNone) (now h1)) h1 h2 →
+    (h1 h2 : History) → EachMoment (LeavesLog (IsBegun are_none) (now h1)) h1 h2 →
     EachMoment (LeavesBegun (now h1)) h1 h2
 creation-moments h1 h2 moments =
-    moments_weaken (LeavesLog (IsBegun AreNone) (now h1)) (LeavesBegun (now h1)) h1 h2 (as_begun (now h1)) moments
+    moments_weaken (LeavesLog (IsBegun are_none) (now h1)) (LeavesBegun (now h1)) h1 h2 (as_begun (now h1)) moments
 
 empty_left : (s : State) → HasOnly s.disk [] → StandsEmpty s
 empty_left s only log pages image torn =

@@ -29,6 +29,8 @@ impl Store {
         ensures length { (database_in self.old ≡ committed_of self.old → ⊥) →
             OnOk result (length_in self.new ≡ length_in self.old + 5 + length (database_bytes (database_in self.old))) }
         ensures only_log { IsTrue W.tells → EachMoment (ChangesLog (now (W.history world.old))) (W.history world.old) (W.history world.new) }
+        ensures kept { OnErr result (committed_of self.new ≡ committed_of self.old) }
+        ensures log_kept { OnErr result (self.new.log ≡ self.old.log) }
         ensures database { database_in self.new ≡ database_in self.old }
         ensures ended { is_running self.new ≡ false }
         ensures bound { bound_in self.new ≡ bound_in self.old }

@@ -1,10 +1,8 @@
-use Rattle.std.proofs.Common.{◌≡◌, List, [], ◌++◌, ◌∷◌, Some, ap, rules, sym, ◌∙◌}
+use Rattle.std.proofs.Common.{◌≡◌, [], ◌++◌, ◌∷◌, Some, ap, rules, sym, ◌∙◌}
 use Rattle.dbpl_log.proofs.OnlyLog.{only_start}
-use Rattle.dbpl_log.specs.Changes.{HasEither, LeavesLog}
 use Rattle.dbpl_store.proofs.Changing.{committed-kept, kept-none, kept-some, settled-kept}
-use Rattle.dbpl_store.proofs.Committing.{nothing-written, record-written}
+use Rattle.dbpl_store.proofs.Committing.{nothing-written, record-written, written-bytes, written-length}
 use Rattle.dbpl_store.proofs.Standing.{newest-more, same-spelling, spelt-read}
-use Rattle.dbpl_store.specs.Kept.{IsSpelt}
 use Rattle.dbpl_store.specs.Stores.{committed_of, database_in}
 use Rattle.dbpl_store.proofs.store.Store.commit.Goals as goal
 
@@ -155,7 +153,8 @@ returns-in-Ok-clause-bytes g c = λ told stood other.
     kept-some (λ bytes. bytes.items) c.args.self.now.stored.items c.args.self.now.database c.args.self.now.changed
     c.in-Some.changed c.args.self.now.kept (sym c.take.ensures.value ∙ c.in-Some.is)
     in
-    rw (← spelt.is) (rw (← c.as_slice-3.ensures.value) (c.in-Ok.ensures.bytes told stood.0 stood.1))
+    written-bytes c.args.self.now.database c.in-Some.changed.items c.as_slice-3.result.now c.args.self.now.log.gate _ _
+    c.as_slice-3.ensures.value spelt (c.in-Ok.ensures.bytes told stood.0 stood.1)
 
 pub returns-in-Ok-clause-length : goal.returns-in-Ok-clause-length
 returns-in-Ok-clause-length g c = λ other.
@@ -163,7 +162,8 @@ returns-in-Ok-clause-length g c = λ other.
     kept-some (λ bytes. bytes.items) c.args.self.now.stored.items c.args.self.now.database c.args.self.now.changed
     c.in-Some.changed c.args.self.now.kept (sym c.take.ensures.value ∙ c.in-Some.is)
     in
-    rw (← spelt.is) (rw (← c.as_slice-3.ensures.value) c.in-Ok.ensures.length)
+    written-length c.args.self.now.database c.in-Some.changed.items c.as_slice-3.result.now _ _ c.as_slice-3.ensures.value
+    spelt c.in-Ok.ensures.length
 
 pub returns-in-Ok-clause-idle_length : goal.returns-in-Ok-clause-idle_length
 returns-in-Ok-clause-idle_length g c = λ same.
