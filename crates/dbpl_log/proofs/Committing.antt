@@ -1,6 +1,8 @@
 -- A commit: before the gate is opened the log has the old records, after it one more, and no other bytes are possible.
-use Rattle.std.proofs.Common.{◌≡◌, ◌≢◌, ℕ, ◌+◌, ◌^◌, ◌<◌, ◌⊎◌, inl, inr, List, [], ◌∷◌, ◌++◌, length, drop, Some, refl, sym, ap, subst, ◌∙◌, arith, append_assoc, length-append}
+use Rattle.std.proofs.Common.{◌≡◌, ◌≢◌, ℕ, suc, ◌+◌, ◌^◌, ◌<◌, ◌⊎◌, inl, inr, List, [], ◌∷◌, ◌++◌, length, take, drop, Some, refl, sym, ap, subst, ◌∙◌, arith, append_assoc, length-append}
 use Rattle.std.proofs.lemmas.Bool.{cases_eq}
+use Rattle.std.proofs.lemmas.List.{drop-drop}
+use Rattle.std.proofs.Math.Seq.{drop-append-add}
 use Rattle.std.specs.Int.{w32, to_le_bytes}
 use Rattle.dbpl_world.specs.declared.part.Part.TheVariants.{Log as TheLog}
 use Rattle.dbpl_world.specs.Images.{PartState, IsImage, written, settled, after_write}
@@ -13,8 +15,8 @@ use Rattle.dbpl_log.specs.declared.log.Log.{Log}
 use Rattle.dbpl_log.specs.Records.{records_of, bytes_of_all, next_gate}
 use Rattle.dbpl_log.specs.Fronts.{IsFront}
 use Rattle.dbpl_log.specs.Rest.{IsAtRest}
-use Rattle.dbpl_log.specs.Changes.{LeavesLog, BeginsWith, HasEither, staging}
-use Rattle.dbpl_log.proofs.RecordLaws.{records_hold, holds_records, front_more, length_front}
+use Rattle.dbpl_log.specs.Changes.{LeavesLog, BeginsWith, HasEither, with_record, staging}
+use Rattle.dbpl_log.proofs.RecordLaws.{records_hold, holds_records, front_more, length_front, take_front}
 use Rattle.dbpl_log.proofs.Leaving.{moments_leave_weaken, moments_leave_then, moments_writing}
 
 pub bytes_of_more : (records : List (List ℕ)) (added : List ℕ) → bytes_of_all (records ++ added ∷ []) ≡ bytes_of_all records + (5 + length added)
@@ -76,6 +78,16 @@ staged_bytes front byte rest field added gate place four =
     regroup : (a b c d e f : List ℕ) → (((a ++ b) ++ c) ++ d) ++ e ++ f ≡ a ++ (b ++ ((c ++ d) ++ (e ++ f)))
     regroup a b c d e f = simp append_assoc
 
+-- the same bytes, in terms of the log before
+recorded : (front : List ℕ) (byte : ℕ) (rest field added : List ℕ) (gate : ℕ) → length front ≡ gate →
+    front ++ 1 ∷ (field ++ added ++ 0 ∷ drop 1 (drop (length added) (drop 4 rest))) ≡ take gate (front ++ byte ∷ rest) ++ 1 ∷ (field ++ added ++ 0 ∷ drop (gate + 6 + length added) (front ++ byte ∷ rest))
+recorded front byte rest field added gate place =
+    let before : take gate (front ++ byte ∷ rest) ≡ front = take_front gate front (byte ∷ rest) place in
+    let after : drop (gate + 6 + length added) (front ++ byte ∷ rest) ≡ drop (4 + length added + 1) rest =
+    ap (λ n. drop n (front ++ byte ∷ rest)) (omega (arith, place)) ∙ drop-append-add front (byte ∷ rest) (suc (4 + length added + 1)) in
+    let behind : drop 1 (drop (length added) (drop 4 rest)) ≡ drop (4 + length added + 1) rest = ap (drop 1) (drop-drop (length added) 4 rest) ∙ drop-drop 1 (4 + length added) rest in
+    rw (before, after, behind) refl
+
 module _ (added : List ℕ) (records : List (List ℕ)) (gate : ℕ) (h0 : History) (stood : Stands (now h0) gate records) (short : length added < 2 ^ 32) where
   abbrev F : List ℕ
   F = stood.front ++ stood.byte ∷ []
@@ -127,15 +139,24 @@ module _ (added : List ℕ) (records : List (List ℕ)) (gate : ℕ) (h0 : Histo
   pub while_opening : (h1 h2 : History) → StageLeaves h1 → h1 ≡ more h0 (staging gate added) → EachMoment (IsWriting TheLog gate (1 ∷ []) (now h1)) h1 h2 → EachMoment (LeavesLog P (now h0)) h0 h2
   while_opening h1 h2 leaves is run = moments_leave_then P h0 h1 h2 (while_staging h1 leaves) (moments_writing P gate (1 ∷ []) h1 h2 (gate_torn h1 is) run)
 
-  pub committed : (h1 h2 : History) (log : Log) → h1 ≡ more h0 (staging gate added) → h2 ≡ more h1 (Wrote TheLog gate (1 ∷ []) ∷ Synced TheLog ∷ []) → gate ≡ next_gate records → log.gate ≡ gate + (5 + length added) → IsAtRest (now h2).disk log (records ++ added ∷ [])
-  committed h1 h2 log is synced here place =
-      let part : (now h2).disk.log ≡ settled (written (now h1).disk.log.now gate (1 ∷ [])) = ap (λ h. (now h).disk.log) synced ∙ ap (λ (s : State). s.disk.log) (now-more h1 (Wrote TheLog gate (1 ∷ []) ∷ Synced TheLog ∷ [])) in
-      let bytes : (now h2).disk.log.now ≡ stood.front ++ 1 ∷ new_part =
-      ap (λ (p : PartState). p.now) part ∙ ap (λ (p : PartState). written p.now gate (1 ∷ [])) (staged_log h1 is) ∙ written-at_front stood.front (stood.byte ∷ new_part) gate (1 ∷ []) (sym stood.place) ∙ append_assoc stood.front (1 ∷ []) new_part in
-      record {
-        only = record {
-          synced = part ∙ ap settled (sym (ap (λ (p : PartState). p.now) part));
-          records_are = has_new stood.front field added behind (now h2).disk.log.now records refl short stood.whole bytes;
-        };
-        gate = omega (arith, place, here, bytes_of_more records added);
-      }
+  module _ (h1 h2 : History) (is : h1 ≡ more h0 (staging gate added)) (synced : h2 ≡ more h1 (Wrote TheLog gate (1 ∷ []) ∷ Synced TheLog ∷ [])) where
+    new_log : (now h2).disk.log ≡ settled (written (now h1).disk.log.now gate (1 ∷ []))
+    new_log = ap (λ h. (now h).disk.log) synced ∙ ap (λ (s : State). s.disk.log) (now-more h1 (Wrote TheLog gate (1 ∷ []) ∷ Synced TheLog ∷ []))
+
+    new_bytes : (now h2).disk.log.now ≡ stood.front ++ 1 ∷ new_part
+    new_bytes =
+        ap (λ (p : PartState). p.now) new_log ∙ ap (λ (p : PartState). written p.now gate (1 ∷ [])) (staged_log h1 is) ∙ written-at_front stood.front (stood.byte ∷ new_part) gate (1 ∷ []) (sym stood.place) ∙ append_assoc stood.front (1 ∷ []) new_part
+
+    pub committed : (log : Log) → gate ≡ next_gate records → log.gate ≡ gate + (5 + length added) → IsAtRest (now h2).disk log (records ++ added ∷ [])
+    committed log here place = record {
+      only = record {
+        synced = new_log ∙ ap settled (sym (ap (λ (p : PartState). p.now) new_log));
+        records_are = has_new stood.front field added behind (now h2).disk.log.now records refl short stood.whole new_bytes;
+      };
+      gate = omega (arith, place, here, bytes_of_more records added);
+    }
+
+    pub committed_bytes : (now h2).disk.log.now ≡ with_record gate added (now h0).disk.log.now
+    committed_bytes =
+        new_bytes ∙ recorded stood.front stood.byte stood.rest field added gate stood.place
+        ∙ sym (ap (λ (p : PartState). with_record gate added p.now) stood.log)

@@ -2,6 +2,7 @@ pub mod Committing
 pub mod Creating
 pub mod Heads
 pub mod Leaving
+pub mod OnlyLog
 pub mod Openings
 pub mod ReadingLaws
 pub mod RecordLaws

@@ -4,7 +4,7 @@ use Rattle.std.specs.Prelude.{option_map}
 use Rattle.std.proofs.lemmas.Bool.{true≢false}
 use Rattle.dbpl_world.specs.declared.part.Part.TheVariants.{Log as TheLog, Pages}
 use Rattle.dbpl_world.specs.Images.{PartState, IsImage, settled}
-use Rattle.dbpl_world.specs.History.{State, Synced, History, more, now, AllReadAnImage}
+use Rattle.dbpl_world.specs.History.{State, settled_store, Synced, History, more, now, AllReadAnImage}
 use Rattle.dbpl_world.proofs.Replays.{now-more}
 use Rattle.dbpl_log.specs.declared.opened.Opened.{Opened}
 use Rattle.dbpl_log.specs.Records.{HasHead, records_from, records_of, next_gate}
@@ -18,6 +18,9 @@ same_records first second read one other = cc
 module _ (h0 h1 : History) (synced : h1 ≡ more h0 (Synced TheLog ∷ Synced Pages ∷ [])) where
   abbrev log : List ℕ
   log = (now h0).disk.log.now
+
+  pub both_synced : (h2 h3 : History) → h2 ≡ h1 → h3 ≡ h2 → (now h3).disk ≡ settled_store log (now h0).disk.pages.now
+  both_synced h2 h3 same last = ap (λ h. (now h).disk) (last ∙ same ∙ synced) ∙ ap (λ (s : State). s.disk) (now-more h0 (Synced TheLog ∷ Synced Pages ∷ []))
 
   part1 : (now h1).disk.log ≡ settled log
   part1 = ap (λ h. (now h).disk.log) synced ∙ ap (λ (s : State). s.disk.log) (now-more h0 (Synced TheLog ∷ Synced Pages ∷ []))

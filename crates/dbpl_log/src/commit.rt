@@ -4,7 +4,7 @@ ghost use Rattle.dbpl_world.specs.Images.{settled};
 ghost use Rattle.dbpl_world.specs.History.{more, now};
 ghost use Rattle.dbpl_world.specs.Moments.{EachMoment};
 ghost use Rattle.dbpl_world.specs.Counts.{Rose, OnlyDiskFaults};
-ghost use Rattle.dbpl_log.specs.Changes.{LeavesLog, BeginsWith, HasEither, staging};
+ghost use Rattle.dbpl_log.specs.Changes.{LeavesLog, ChangesLog, BeginsWith, HasEither, with_record, staging};
 ghost use Rattle.dbpl_log.specs.Rest.{IsAtRest, length_of};
 
 use crate::Log;
@@ -19,6 +19,9 @@ impl Log {
             EachMoment (LeavesLog (HasEither records added.now) (now (W.history world.old))) (W.history world.old) (W.history world.new) }
         ensures committed { IsTrue W.tells → (records : List (List ℕ)) → IsAtRest (now (W.history world.old)).disk self.old records →
             OnOk result (IsAtRest (now (W.history world.new)).disk self.new (records ++ added.now ∷ [])) }
+        ensures bytes { IsTrue W.tells → (records : List (List ℕ)) → IsAtRest (now (W.history world.old)).disk self.old records →
+            OnOk result ((now (W.history world.new)).disk.log.now ≡ with_record self.old.gate added.now (now (W.history world.old)).disk.log.now) }
+        ensures only_log { IsTrue W.tells → EachMoment (ChangesLog (now (W.history world.old))) (W.history world.old) (W.history world.new) }
         ensures length { OnOk result (length_of self.new ≡ length_of self.old + 5 + length added.now) }
         ensures kept { OnErr result (self.new ≡ self.old) }
         ensures same { W.mounted world.new ≡ W.mounted world.old }
@@ -41,6 +44,7 @@ fn stage<W: World>(world: &mut W, gate: u64, added: &[u8]) -> Result<(), Failed>
     ensures ok { IsTrue W.tells → OnOk result (W.history world.new ≡ more (W.history world.old) (staging gate added.now)) }
     ensures moments { IsTrue W.tells → (front rest : List ℕ) → (now (W.history world.old)).disk.log ≡ settled (front ++ rest) → length front ≡ gate + 1 →
         EachMoment (LeavesLog (BeginsWith front) (now (W.history world.old))) (W.history world.old) (W.history world.new) }
+    ensures only_log { IsTrue W.tells → EachMoment (ChangesLog (now (W.history world.old))) (W.history world.old) (W.history world.new) }
     ensures same { W.mounted world.new ≡ W.mounted world.old }
     ensures counts { OnlyDiskFaults (W.counts world.old) (W.counts world.new) }
     ensures cause { OnErr result (Rose (W.counts world.old).disk_faults (W.counts world.new).disk_faults) }

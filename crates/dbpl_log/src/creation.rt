@@ -1,5 +1,5 @@
 // A new store: the head is written behind a shut gate, which is opened last.
-ghost use Rattle.std.specs.Prelude.{◌≡◌, ◌⊎◌, ℕ, List, ◌∷◌, [], drop, Err, IsTrue, IsSome, OnOk, OnErr};
+ghost use Rattle.std.specs.Prelude.{◌≡◌, ◌⊎◌, ℕ, Bool, List, ◌∷◌, [], drop, Err, IsTrue, IsSome, OnOk, OnErr};
 ghost use Rattle.dbpl_world.specs.Images.{IsImage, settled};
 ghost use Rattle.dbpl_world.specs.History.{now};
 ghost use Rattle.dbpl_world.specs.Moments.{EachMoment};
@@ -7,7 +7,7 @@ ghost use Rattle.dbpl_world.specs.Counts.{Rose, OnlyDiskFaults};
 ghost use Rattle.dbpl_log.specs.Records.{HasHead};
 ghost use Rattle.dbpl_log.specs.Rest.{HasOnly};
 ghost use Rattle.dbpl_log.specs.Beginning.{MayBegin, IsBegun, IsForeign, IsFree, begun};
-ghost use Rattle.dbpl_log.specs.Changes.{LeavesLog};
+ghost use Rattle.dbpl_log.specs.Changes.{LeavesLog, ChangesLog, WritesLog};
 ghost use Rattle.dbpl_log.specs.declared.create_err.CreateErr.TheVariants as errors;
 
 use crate::CreateErr;
@@ -21,10 +21,13 @@ const LONGEST_UNKNOWN: u64 = 4096;
 /// Makes a store without records. After a stop within it, it may be called again.
 pub fn create<W: World>(world: &mut W) -> Result<(), CreateErr>
     requires mounted { IsSome (W.mounted world.old) }
-    ensures moments { IsTrue W.tells → ((log : List ℕ) → IsImage (now (W.history world.old)).disk.log log → MayBegin log) →
-        EachMoment (LeavesLog IsBegun (now (W.history world.old))) (W.history world.old) (W.history world.new) }
+    // The caller says by a test which records count as none.
+    ensures moments { IsTrue W.tells → (are_none : List (List ℕ) → Bool) → IsTrue (are_none []) → ((log : List ℕ) → IsImage (now (W.history world.old)).disk.log log → MayBegin are_none log) →
+        EachMoment (LeavesLog (IsBegun are_none) (now (W.history world.old))) (W.history world.old) (W.history world.new) }
     ensures made { IsTrue W.tells → OnOk result (HasOnly (now (W.history world.new)).disk []) }
     ensures bytes { IsTrue W.tells → OnOk result ((now (W.history world.new)).disk.log.now ≡ begun (now (W.history world.old)).disk.log.now) }
+    ensures writes { IsTrue W.tells → EachMoment (WritesLog (now (W.history world.old))) (W.history world.old) (W.history world.new) }
+    ensures pages { IsTrue W.tells → OnOk result ((now (W.history world.new)).disk.pages ≡ settled (now (W.history world.old)).disk.pages.now) }
 
     // Each refusal comes exactly where it says, but for faults.
     ensures free { IsTrue W.tells → OnOk result (IsFree (now (W.history world.old)).disk) }
@@ -74,8 +77,9 @@ fn check_free<W: World>(world: &mut W) -> Result<(), CreateErr>
 fn shut_head<W: World>(world: &mut W) -> Result<(), Failed>
     requires mounted { IsSome (W.mounted world.old) }
     ensures shut { IsTrue W.tells → (log : List ℕ) → (now (W.history world.old)).disk.log ≡ settled log → OnOk result ((now (W.history world.new)).disk.log ≡ settled (0 ∷ drop 1 log)) }
-    ensures moments { IsTrue W.tells → (log : List ℕ) → (now (W.history world.old)).disk.log ≡ settled log → MayBegin log →
-        EachMoment (LeavesLog IsBegun (now (W.history world.old))) (W.history world.old) (W.history world.new) }
+    ensures moments { IsTrue W.tells → (are_none : List (List ℕ) → Bool) → (log : List ℕ) → (now (W.history world.old)).disk.log ≡ settled log → MayBegin are_none log →
+        EachMoment (LeavesLog (IsBegun are_none) (now (W.history world.old))) (W.history world.old) (W.history world.new) }
+    ensures only_log { IsTrue W.tells → EachMoment (ChangesLog (now (W.history world.old))) (W.history world.old) (W.history world.new) }
     ensures same { W.mounted world.new ≡ W.mounted world.old }
     ensures counts { OnlyDiskFaults (W.counts world.old) (W.counts world.new) }
     ensures cause { OnErr result (Rose (W.counts world.old).disk_faults (W.counts world.new).disk_faults) }

@@ -1,5 +1,5 @@
 // Laws of the log, as contracts of functions that do nothing.
-ghost use Rattle.std.specs.Prelude.{◌≡◌, List, [], ℕ, Some};
+ghost use Rattle.std.specs.Prelude.{◌≡◌, Bool, List, [], ℕ, Some};
 ghost use Rattle.dbpl_log.specs.Beginning.{MayBegin};
 ghost use Rattle.dbpl_log.specs.Fronts.{Holds};
 ghost use Rattle.dbpl_log.specs.Records.{records_of};
@@ -12,5 +12,5 @@ pub fn records_are_held()
 
 /// A store may be made where there is nothing.
 pub fn nothing_may_begin()
-    ensures { MayBegin [] }
+    ensures { (are_none : List (List ℕ) → Bool) → MayBegin are_none [] }
 {}

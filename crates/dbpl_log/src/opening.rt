@@ -1,12 +1,12 @@
 // A log opened: made sure of, read, and left as it is.
-ghost use Rattle.std.specs.Prelude.{◌≡◌, ◌⊎◌, ◌^◌, ◌<◌, ℕ, List, Some, None, Err, IsTrue, IsSome, IfOk, IfErr, OnErr, vec_len};
+ghost use Rattle.std.specs.Prelude.{◌≡◌, ◌⊎◌, ◌^◌, ◌<◌, ℕ, List, Some, None, Err, IsTrue, IsSome, IfOk, IfErr, OnOk, OnErr, vec_len};
 ghost use Rattle.dbpl_world.specs.Images.{IsImage};
-ghost use Rattle.dbpl_world.specs.History.{now};
+ghost use Rattle.dbpl_world.specs.History.{now, settled_store};
 ghost use Rattle.dbpl_world.specs.Moments.{EachMoment};
 ghost use Rattle.dbpl_world.specs.Counts.{Rose, OnlyDiskFaults};
 ghost use Rattle.dbpl_log.specs.Records.{HasHead, records_of};
 ghost use Rattle.dbpl_log.specs.Rest.{IsAtRest, records_in};
-ghost use Rattle.dbpl_log.specs.Changes.{LeavesLog};
+ghost use Rattle.dbpl_log.specs.Changes.{LeavesLog, OnlySyncs};
 ghost use Rattle.dbpl_log.specs.declared.open_err.OpenErr.TheVariants as errors;
 
 use crate::head::has_head;
@@ -22,6 +22,8 @@ pub fn open<W: World>(alloc: Global, world: &mut W) -> Result<Opened, OpenErr>
     ensures records { IsTrue W.tells → IfOk result (λ opened. records_of (now (W.history world.old)).disk.log.now ≡ Some (records_in opened)) }
     ensures at_rest { IsTrue W.tells → IfOk result (λ opened. IsAtRest (now (W.history world.new)).disk opened.log (records_in opened)) }
     ensures stood { IsTrue W.tells → (records : List (List ℕ)) → ((log : List ℕ) → IsImage (now (W.history world.old)).disk.log log → records_of log ≡ Some records) → IfOk result (λ opened. records_in opened ≡ records) }
+    ensures synced { IsTrue W.tells → OnOk result ((now (W.history world.new)).disk ≡ settled_store (now (W.history world.old)).disk.log.now (now (W.history world.old)).disk.pages.now) }
+    ensures only_syncs { IsTrue W.tells → EachMoment (OnlySyncs (now (W.history world.old))) (W.history world.old) (W.history world.new) }
     ensures moments { IsTrue W.tells → EachMoment (LeavesLog (IsImage (now (W.history world.old)).disk.log) (now (W.history world.old))) (W.history world.old) (W.history world.new) }
 
     // Each refusal comes exactly where it says, but for faults and want of memory.

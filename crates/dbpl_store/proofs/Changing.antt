@@ -5,7 +5,7 @@ use Rattle.std.proofs.lemmas.Bool.{cases_lt}
 use Rattle.std.proofs.lemmas.Slice.Eq.{bytes_eq-Decides}
 use Rattle.std.specs.Cmp.{first_so, second_so}
 use Rattle.std.specs.List.{find, list_all}
-use Rattle.std.specs.Option.{is_some, option_and_then, option_map, option_map_or, unwrap_or}
+use Rattle.std.specs.Option.{is_some, option_and_then, option_map, unwrap_or}
 use Rattle.dbpl_codec.proofs.ByteLaws.{some_is}
 use Rattle.dbpl_database.proofs.Holding.{get_set}
 use Rattle.dbpl_database.proofs.Kept.{added_kept, held_kept}

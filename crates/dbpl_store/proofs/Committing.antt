@@ -1,17 +1,19 @@
 -- What holds at each moment of a commit.
-use Rattle.std.proofs.Common.{◌≡◌, ◌⊎◌, inl, inr, ℕ, true, List, [], ◌∷◌, ◌++◌, Option, Some, refl, sym, ap, subst, ◌∙◌}
+use Rattle.std.proofs.Common.{◌≡◌, inl, inr, ℕ, ◌+◌, List, [], ◌∷◌, ◌++◌, length, Some, refl, ap, subst, ◌∙◌}
 use Rattle.dbpl_database.specs.Reading.{database_of}
-use Rattle.dbpl_log.specs.Changes.{HasEither, LeavesLog}
+use Rattle.dbpl_database.specs.Spelling.{database_bytes}
+use Rattle.dbpl_log.specs.Changes.{HasEither, LeavesLog, with_record}
 use Rattle.dbpl_log.specs.Records.{records_of}
 use Rattle.dbpl_log.specs.Rest.{IsAtRest}
 use Rattle.dbpl_log.specs.declared.log.Log.{Log}
 use Rattle.dbpl_store.proofs.Standing.{newest-more, stands-for}
+use Rattle.dbpl_store.specs.Kept.{IsSpelt}
 use Rattle.dbpl_store.specs.Stands.{IsEither, LeavesDatabase, newest, stands}
 use Rattle.dbpl_value.specs.declared.bound.Bound.{Bound}
 use Rattle.dbpl_world.proofs.Moments.{moments_start, moments_weaken}
 use Rattle.dbpl_world.proofs.Torn.{settled_image}
 use Rattle.dbpl_world.specs.History.{History, State, now}
-use Rattle.dbpl_world.specs.Images.{IsImage, settled}
+use Rattle.dbpl_world.specs.Images.{IsImage}
 use Rattle.dbpl_world.specs.Moments.{EachMoment}
 
 -- ---- nothing is written
@@ -60,3 +62,17 @@ pub record-written :
 record-written h1 h2 records added database next newer read moments =
     moments_weaken (LeavesLog (HasEither records added) (now h1)) (LeavesDatabase (IsEither database next) (now h1)) h1 h2
     (λ s. leaves (now h1) s records added database next newer read) moments
+
+-- the bytes that were handed on are the spelling of the database
+pub written-bytes :
+    (database : List Bound) (spelling added : List ℕ) (gate : ℕ) (old new : List ℕ) → added ≡ spelling →
+    IsSpelt database spelling → new ≡ with_record gate added old → new ≡ with_record gate (database_bytes database) old
+written-bytes database spelling added gate old new same spelt is =
+    is ∙ ap (λ bytes. with_record gate bytes old) (same ∙ spelt.is)
+
+pub written-length :
+    (database : List Bound) (spelling added : List ℕ) (before after : ℕ) → added ≡ spelling →
+    IsSpelt database spelling → after ≡ before + 5 + length added →
+    after ≡ before + 5 + length (database_bytes database)
+written-length database spelling added before after same spelt is =
+    is ∙ ap (λ (bytes : List ℕ). before + 5 + length bytes) (same ∙ spelt.is)

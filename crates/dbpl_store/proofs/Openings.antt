@@ -1,5 +1,5 @@
 -- What an opening gives.
-use Rattle.std.proofs.Common.{◌≡◌, ◌⊎◌, inl, inr, ℕ, true, false, List, [], Option, Some, None, Result, Ok, Err, IfOk, IfErr, refl, sym, ap, subst, ◌∙◌}
+use Rattle.std.proofs.Common.{◌≡◌, ◌⊎◌, inl, inr, ℕ, List, [], Option, Some, None, Result, Ok, Err, IfOk, IfErr, OnOk, refl, sym, ap, ◌∙◌}
 use Rattle.std.specs.Option.{option_and_then}
 use Rattle.dbpl_log.specs.Changes.{LeavesLog}
 use Rattle.dbpl_log.specs.Records.{HasHead, records_of}
@@ -58,6 +58,11 @@ pub opened-read :
     IfOk result (λ store. stands log pages ≡ Some (committed_of store))
 opened-read log pages records (Ok store) has newer = stands-for log pages records (committed_of store) has newer
 opened-read log pages records (Err e) has newer = tt
+
+-- what holds of the disk, whatever the records spell
+pub opened-anyway : {P : Type 0} (result : Result Store StoreErr) → P → OnOk result P
+opened-anyway (Ok store) holds = holds
+opened-anyway (Err e) holds = tt
 
 abbrev failed : StoreErr → Result Store StoreErr
 failed e = Err e

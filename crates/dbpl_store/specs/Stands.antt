@@ -2,7 +2,6 @@
 use Rattle.std.specs.Prelude.{◌≡◌, ◌⊎◌, ℕ, List, [], ◌∷◌, Option, Some}
 use Rattle.std.specs.Option.{option_and_then}
 use Rattle.dbpl_database.specs.Reading.{database_of}
-use Rattle.dbpl_log.specs.Beginning.{MayBegin}
 use Rattle.dbpl_log.specs.Records.{records_of}
 use Rattle.dbpl_value.specs.declared.bound.Bound.{Bound}
 use Rattle.dbpl_world.specs.History.{State}
@@ -30,14 +29,4 @@ IsEither database other found = (found ≡ Some database) ⊎ (found ≡ Some ot
 pub record LeavesOld (old s : State) : Type 0 where
   pub log : (left : List ℕ) → IsImage s.disk.log left → IsImage old.disk.log left
   pub pages : (left : List ℕ) → IsImage s.disk.pages left → IsImage old.disk.pages left
-  pub others : s ≡ record old { disk = s.disk }
-
--- whatever a stop leaves stands for the empty database
-abbrev pub StandsEmpty : State → Type 0
-StandsEmpty s = (log pages : List ℕ) → IsImage s.disk.log log → IsImage s.disk.pages pages → stands log pages ≡ Some []
-
--- Whatever a stop leaves is no store yet, and one may still be made of it, or it stands for the empty database. Of the
--- world nothing but its disk has changed.
-pub record LeavesBegun (old s : State) : Type 0 where
-  pub left : (log pages : List ℕ) → IsImage s.disk.log log → IsImage s.disk.pages pages → MayBegin log ⊎ (stands log pages ≡ Some [])
   pub others : s ≡ record old { disk = s.disk }

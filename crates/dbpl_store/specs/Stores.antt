@@ -3,7 +3,7 @@ use Rattle.std.specs.Prelude.{◌≡◌, ℕ, Bool, List, [], slice_get, Option,
 use Rattle.std.specs.Option.{option_and_then, option_map_or, unwrap_or}
 use Rattle.dbpl_database.specs.Binding.{with_relation}
 use Rattle.dbpl_database.specs.Reading.{database_of}
-use Rattle.dbpl_log.specs.Rest.{IsAtRest}
+use Rattle.dbpl_log.specs.Rest.{IsAtRest, length_of}
 use Rattle.dbpl_store.specs.Stands.{newest}
 use Rattle.dbpl_store.specs.declared.store.Store.{Store}
 use Rattle.dbpl_value.specs.declared.bound.Bound.{Bound}
@@ -18,6 +18,14 @@ committed_of store = unwrap_or (database_of store.stored.items) []
 -- the database, with what the running transaction changed
 abbrev pub database_in : Store → List Bound
 database_in store = store.database
+
+-- where the gate behind the newest record stands
+abbrev pub gate_in : Store → ℕ
+gate_in store = store.log.gate
+
+-- how many bytes of the log count: up to that gate, and with it
+abbrev pub length_in : Store → ℕ
+length_in store = length_of store.log
 
 -- whether a transaction runs
 abbrev pub is_running : Store → Bool

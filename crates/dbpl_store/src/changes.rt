@@ -22,6 +22,8 @@ impl Store {
             (Binds rel.now (database_in self.old) (database_in self.new) × IsBoundTo rel.now self.new)
             (Differs rel.now (database_in self.old) × (database_in self.new ≡ database_in self.old))) }
         ensures kept { OnErr result (database_in self.new ≡ database_in self.old) }
+        ensures refused { IfOk result (λ is_bound. is_bound ≡ false → bound_in self.new ≡ bound_in self.old) }
+        ensures bound_kept { OnErr result (bound_in self.new ≡ bound_in self.old) }
         ensures committed { committed_of self.new ≡ committed_of self.old }
         ensures running { is_running self.new ≡ is_running self.old }
         ensures log { self.new.log ≡ self.old.log }

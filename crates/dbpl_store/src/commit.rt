@@ -1,7 +1,9 @@
 //! A commit: the log gets the database as one more record.
-ghost use Rattle.std.specs.Prelude.{◌≡◌, false, IsTrue, IsSome, OnErr, OnOk};
+ghost use Rattle.std.specs.Prelude.{◌≡◌, ◌+◌, false, IsTrue, IsSome, length, OnErr, OnOk};
+ghost use Rattle.dbpl_database.specs.Spelling.{database_bytes};
+ghost use Rattle.dbpl_log.specs.Changes.{ChangesLog, with_record};
 ghost use Rattle.dbpl_store.specs.Stands.{IsEither, LeavesDatabase};
-ghost use Rattle.dbpl_store.specs.Stores.{IsOpen, bound_in, committed_of, database_in, is_running};
+ghost use Rattle.dbpl_store.specs.Stores.{IsOpen, bound_in, committed_of, database_in, gate_in, is_running, length_in};
 ghost use Rattle.dbpl_world.specs.Counts.{OnlyDiskFaults, Rose};
 ghost use Rattle.dbpl_world.specs.History.{now};
 ghost use Rattle.dbpl_world.specs.Moments.{EachMoment};
@@ -21,10 +23,19 @@ impl Store {
         ensures open { IsTrue W.tells → IsOpen (now (W.history world.old)) self.old →
             OnOk result (IsOpen (now (W.history world.new)) self.new) }
         ensures committed { OnOk result (committed_of self.new ≡ database_in self.old) }
+        ensures bytes { IsTrue W.tells → IsOpen (now (W.history world.old)) self.old → (database_in self.old ≡ committed_of self.old → ⊥) →
+            OnOk result ((now (W.history world.new)).disk.log.now
+            ≡ with_record (gate_in self.old) (database_bytes (database_in self.old)) (now (W.history world.old)).disk.log.now) }
+        ensures length { (database_in self.old ≡ committed_of self.old → ⊥) →
+            OnOk result (length_in self.new ≡ length_in self.old + 5 + length (database_bytes (database_in self.old))) }
+        ensures only_log { IsTrue W.tells → EachMoment (ChangesLog (now (W.history world.old))) (W.history world.old) (W.history world.new) }
+        ensures kept { OnErr result (committed_of self.new ≡ committed_of self.old) }
+        ensures log_kept { OnErr result (self.new.log ≡ self.old.log) }
         ensures database { database_in self.new ≡ database_in self.old }
         ensures ended { is_running self.new ≡ false }
         ensures bound { bound_in self.new ≡ bound_in self.old }
         ensures idle { database_in self.old ≡ committed_of self.old → (world.new ≡ world.old) }
+        ensures idle_length { database_in self.old ≡ committed_of self.old → length_in self.new ≡ length_in self.old }
         ensures same { W.mounted world.new ≡ W.mounted world.old }
         ensures counts { OnlyDiskFaults (W.counts world.old) (W.counts world.new) }
         ensures cause { OnErr result (Rose (W.counts world.old).disk_faults (W.counts world.new).disk_faults) }

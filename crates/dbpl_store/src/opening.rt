@@ -1,5 +1,6 @@
 //! A store is opened: its log is read, and the newest record is its database.
-ghost use Rattle.std.specs.Prelude.{◌≡◌, ◌⊎◌, [], Err, IfErr, IfOk, IsSome, IsTrue, List, None, Some, ℕ, false};
+ghost use Rattle.std.specs.Prelude.{◌≡◌, ◌⊎◌, [], Err, IfErr, IfOk, IsSome, IsTrue, List, None, OnOk, Some, ℕ, false};
+ghost use Rattle.dbpl_log.specs.Changes.{OnlySyncs};
 ghost use Rattle.dbpl_log.specs.Records.{HasHead};
 ghost use Rattle.dbpl_log.specs.Rest.{records_in};
 ghost use Rattle.dbpl_store.specs.Errors.{of_log};
@@ -8,7 +9,7 @@ ghost use Rattle.dbpl_store.specs.Stores.{IsOpen, bound_in, committed_of, databa
 ghost use Rattle.dbpl_store.specs.declared.store_err.StoreErr.TheVariants as errors;
 ghost use Rattle.dbpl_value.specs.declared.bound.Bound.{Bound};
 ghost use Rattle.dbpl_world.specs.Counts.{OnlyDiskFaults, Rose};
-ghost use Rattle.dbpl_world.specs.History.{now};
+ghost use Rattle.dbpl_world.specs.History.{now, settled_store};
 ghost use Rattle.dbpl_world.specs.Images.{IsImage};
 ghost use Rattle.dbpl_world.specs.Moments.{EachMoment};
 
@@ -32,6 +33,8 @@ pub fn open<W: World>(alloc: Global, world: &mut W) -> Result<Store, StoreErr>
     ensures open { IsTrue W.tells → IfOk result (IsOpen (now (W.history world.new))) }
     ensures database { IfOk result (λ store. database_in store ≡ committed_of store) }
     ensures still { IfOk result (λ store. (is_running store ≡ false) × (bound_in store ≡ None)) }
+    ensures synced { IsTrue W.tells → OnOk result ((now (W.history world.new)).disk ≡ settled_store (now (W.history world.old)).disk.log.now (now (W.history world.old)).disk.pages.now) }
+    ensures only_syncs { IsTrue W.tells → EachMoment (OnlySyncs (now (W.history world.old))) (W.history world.old) (W.history world.new) }
     ensures moments { IsTrue W.tells → EachMoment (LeavesOld (now (W.history world.old))) (W.history world.old) (W.history world.new) }
 
     // Each refusal comes exactly where it says, but for faults and want of memory.

@@ -1,7 +1,7 @@
 -- The exits of an opening.
 use Rattle.std.proofs.Common.{◌∙◌}
 use Rattle.dbpl_log.specs.Rest.{records_in}
-use Rattle.dbpl_log.proofs.Openings.{no_head, some_head, some_read, none_read, rests, stands_for}
+use Rattle.dbpl_log.proofs.Openings.{both_synced, no_head, some_head, some_read, none_read, rests, stands_for}
 use Rattle.dbpl_log.proofs.opening.open.Goals as goal
 
 pub returns-then-not-branch-clause-not_store : goal.returns-then-not-branch-clause-not_store
@@ -23,6 +23,9 @@ pub returns-in-Some-clause-at_rest : goal.returns-in-Some-clause-at_rest
 returns-in-Some-clause-at_rest g c told =
     let read = some_read _ _ (c.in_ok-sync_both.ensures.ok told) _ (c.has_head.ensures.unchanged told) c.in_ok-has_head.field-0 c.if-not-branch.false (c.in_ok-has_head.ensures.ok told) c.deref.result.now (c.deref.ensures.value ∙ c.in_ok-log.ensures.bytes told) c.in_ok-opened.field-0 c.in-Some.opened c.in-Some.is c.in_ok-opened.ensures.records in
     rests _ _ (c.in_ok-sync_both.ensures.ok told) _ (c.has_head.ensures.unchanged told) c.in_ok-has_head.field-0 c.if-not-branch.false (c.in_ok-has_head.ensures.ok told) c.deref.result.now (c.deref.ensures.value ∙ c.in_ok-log.ensures.bytes told) _ c.in-Some.opened (c.read_log.ensures.unchanged told) read (rw c.in-Some.is at c.in_ok-opened.ensures.gate)
+
+pub returns-in-Some-clause-synced : goal.returns-in-Some-clause-synced
+returns-in-Some-clause-synced g c told = both_synced _ _ (c.in_ok-sync_both.ensures.ok told) _ _ (c.has_head.ensures.unchanged told) (c.read_log.ensures.unchanged told)
 
 pub returns-in-Some-clause-stood : goal.returns-in-Some-clause-stood
 returns-in-Some-clause-stood g c told records premise =

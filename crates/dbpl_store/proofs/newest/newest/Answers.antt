@@ -1,4 +1,4 @@
-use Rattle.std.proofs.Common.{◌≡◌, sym, ◌∙◌}
+use Rattle.std.proofs.Common.{sym, ◌∙◌}
 use Rattle.std.proofs.lemmas.Result.{err_from_is_err_and}
 use Rattle.dbpl_store.proofs.Standing.{newest-done, newest-read, newest-stops}
 use Rattle.dbpl_store.proofs.newest.newest.Goals as goal

@@ -1,7 +1,7 @@
-use Rattle.std.proofs.Common.{◌≡◌, Err, ap, refl, sym, ◌∙◌}
+use Rattle.std.proofs.Common.{Err, ap, sym, ◌∙◌}
 use Rattle.dbpl_log.proofs.RecordLaws.{records_head}
 use Rattle.dbpl_log.specs.Rest.{records_in}
-use Rattle.dbpl_store.proofs.Openings.{err_is, log-damaged, opened-damaged, opened-damaged_where, opened-read, opened-stood, opening-moments}
+use Rattle.dbpl_store.proofs.Openings.{err_is, log-damaged, opened-anyway, opened-damaged, opened-damaged_where, opened-read, opened-stood, opening-moments}
 use Rattle.dbpl_world.specs.History.{now}
 use Rattle.dbpl_store.proofs.opening.open.Goals as goal
 
@@ -18,6 +18,9 @@ returns-in-Ok-clause-read g c = λ told.
     let s = now (g.W.World.history c.args.world.now) in
     opened-read s.disk.log.now s.disk.pages.now (records_in c.in-Ok.opened) c.store_of.result
     (c.in-Ok.ensures.records told) c.store_of.ensures.newest
+
+pub returns-in-Ok-clause-synced : goal.returns-in-Ok-clause-synced
+returns-in-Ok-clause-synced g c = λ told. opened-anyway c.store_of.result (c.in-Ok.ensures.synced told)
 
 pub returns-in-Ok-clause-moments : goal.returns-in-Ok-clause-moments
 returns-in-Ok-clause-moments g c = λ told.

@@ -1,4 +1,4 @@
-use Rattle.std.proofs.Common.{◌≡◌, ℕ, Global, Vec, None, Some, ap, refl, sym, ◌∙◌}
+use Rattle.std.proofs.Common.{ℕ, Global, Vec, None, Some, ap, refl, sym, ◌∙◌}
 use Rattle.dbpl_store.proofs.Changing.{committed-kept, settled-kept}
 use Rattle.dbpl_store.specs.Kept.{IsSpelt}
 use Rattle.dbpl_store.proofs.opening.store_of.Goals as goal

@@ -1,6 +1,7 @@
 -- The exits of a commit.
-use Rattle.std.proofs.Common.{refl}
-use Rattle.dbpl_log.proofs.Committing.{stands, while_staging, while_opening, committed}
+use Rattle.std.proofs.Common.{[], ◌∷◌, refl}
+use Rattle.dbpl_log.proofs.Committing.{stands, while_staging, while_opening, committed, committed_bytes}
+use Rattle.dbpl_log.proofs.OnlyLog.{only_writing}
 use Rattle.dbpl_log.proofs.log.Log.commit.Goals as goal
 
 pub returns-in_err-stage-clause-moments : goal.returns-in_err-stage-clause-moments
@@ -19,5 +20,16 @@ returns-clause-moments g c told records at_rest =
 
 pub returns-clause-committed : goal.returns-clause-committed
 returns-clause-committed g c told records at_rest =
-    committed c.args.added.now records c.args.self.now.gate _ (stands _ c.args.self.now records at_rest) c.requires.short _ _ _
-    (c.in_ok-stage.ensures.ok told) (c.in_ok-write_and_sync.ensures.ok told) at_rest.gate refl
+    committed c.args.added.now records c.args.self.now.gate _ (stands _ c.args.self.now records at_rest) c.requires.short _ _
+    (c.in_ok-stage.ensures.ok told) (c.in_ok-write_and_sync.ensures.ok told) _ at_rest.gate refl
+
+pub returns-clause-bytes : goal.returns-clause-bytes
+returns-clause-bytes g c told records at_rest =
+    committed_bytes c.args.added.now records c.args.self.now.gate _ (stands _ c.args.self.now records at_rest) c.requires.short _ _
+    (c.in_ok-stage.ensures.ok told) (c.in_ok-write_and_sync.ensures.ok told)
+
+pub returns-in_err-write_and_sync-clause-only_log : goal.returns-in_err-write_and_sync-clause-only_log
+returns-in_err-write_and_sync-clause-only_log g c told = only_writing _ _ _ c.args.self.now.gate (1 ∷ []) (c.in_ok-stage.ensures.only_log told) (c.in_err-write_and_sync.ensures.moments told)
+
+pub returns-clause-only_log : goal.returns-clause-only_log
+returns-clause-only_log g c told = only_writing _ _ _ c.args.self.now.gate (1 ∷ []) (c.in_ok-stage.ensures.only_log told) (c.in_ok-write_and_sync.ensures.moments told)

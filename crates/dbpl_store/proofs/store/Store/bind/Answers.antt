@@ -1,7 +1,7 @@
-use Rattle.std.proofs.Common.{◌≡◌, None, Some, slice_get, length, refl, rules, sym, subst, ap, ◌∙◌}
+use Rattle.std.proofs.Common.{◌≡◌, None, Some, slice_get, refl, rules, ap}
 use Rattle.std.proofs.lemmas.Option.{slice_get_read}
-use Rattle.std.specs.Option.{option_map}
-use Rattle.dbpl_database.specs.Binding.{bound_named, empty_bound}
+use Rattle.std.specs.Option.{option_and_then}
+use Rattle.dbpl_database.specs.Binding.{bound_named}
 use Rattle.dbpl_store.proofs.Changing.{added-sound, bound-added, bound-there, differs-there, named-none, taken-back}
 use Rattle.dbpl_store.proofs.store.Store.bind.Goals as goal
 
@@ -61,3 +61,9 @@ pub returns-in-Err-clause-kept : goal.returns-in-Err-clause-kept
 returns-in-Err-clause-kept c =
     taken-back c.args.rel.now c.args.self.now.database c.add_empty.new.database c.remove.new.self c.in_ok-at.at
     c.in_ok-at.ensures.within c.in_ok-at.ensures.inserted c.remove.ensures.rest
+
+pub returns-in-Err-clause-bound_kept : goal.returns-in-Err-clause-bound_kept
+returns-in-Err-clause-bound_kept c =
+    ap (λ database. option_and_then (slice_get database) c.args.self.now.bound)
+    (taken-back c.args.rel.now c.args.self.now.database c.add_empty.new.database c.remove.new.self c.in_ok-at.at
+    c.in_ok-at.ensures.within c.in_ok-at.ensures.inserted c.remove.ensures.rest)

@@ -1,9 +1,8 @@
-use Rattle.std.proofs.Common.{◌≡◌, List, [], ◌++◌, ◌∷◌, Some, ap, rules, sym, ◌∙◌}
-use Rattle.dbpl_log.specs.Changes.{HasEither, LeavesLog}
+use Rattle.std.proofs.Common.{◌≡◌, [], ◌++◌, ◌∷◌, Some, ap, rules, sym, ◌∙◌}
+use Rattle.dbpl_log.proofs.OnlyLog.{only_start}
 use Rattle.dbpl_store.proofs.Changing.{committed-kept, kept-none, kept-some, settled-kept}
-use Rattle.dbpl_store.proofs.Committing.{nothing-written, record-written}
+use Rattle.dbpl_store.proofs.Committing.{nothing-written, record-written, written-bytes, written-length}
 use Rattle.dbpl_store.proofs.Standing.{newest-more, same-spelling, spelt-read}
-use Rattle.dbpl_store.specs.Kept.{IsSpelt}
 use Rattle.dbpl_store.specs.Stores.{committed_of, database_in}
 use Rattle.dbpl_store.proofs.store.Store.commit.Goals as goal
 
@@ -109,3 +108,79 @@ returns-in-Err-clause-idle g c = λ same.
     c.args.self.now.kept.stored_is spelt same
     in
     absurd (search rules)
+
+-- ---- where the database is another than the committed one
+
+pub returns-in_default-clause-bytes : goal.returns-in_default-clause-bytes
+returns-in_default-clause-bytes g c = λ told stood other.
+    let same =
+    committed-kept c.args.self.now.stored.items c.args.self.now.database c.args.self.now.sound
+    (kept-none (λ bytes. bytes.items) c.args.self.now.stored.items c.args.self.now.database c.args.self.now.changed
+    c.args.self.now.kept (sym c.take.ensures.value ∙ c.in_default.is))
+    in
+    absurd (other (sym same))
+
+pub returns-in_default-clause-length : goal.returns-in_default-clause-length
+returns-in_default-clause-length g c = λ other.
+    let same =
+    committed-kept c.args.self.now.stored.items c.args.self.now.database c.args.self.now.sound
+    (kept-none (λ bytes. bytes.items) c.args.self.now.stored.items c.args.self.now.database c.args.self.now.changed
+    c.args.self.now.kept (sym c.take.ensures.value ∙ c.in_default.is))
+    in
+    absurd (other (sym same))
+
+pub returns-then-eq-clause-bytes : goal.returns-then-eq-clause-bytes
+returns-then-eq-clause-bytes g c = λ told stood other.
+    let spelt =
+    kept-some (λ bytes. bytes.items) c.args.self.now.stored.items c.args.self.now.database c.args.self.now.changed
+    c.in-Some.changed c.args.self.now.kept (sym c.take.ensures.value ∙ c.in-Some.is)
+    in
+    let one : c.in-Some.changed.items ≡ c.args.self.now.stored.items = search rules in
+    absurd (other (sym (committed-kept c.args.self.now.stored.items c.args.self.now.database c.args.self.now.sound (rw (← one) spelt))))
+
+pub returns-then-eq-clause-length : goal.returns-then-eq-clause-length
+returns-then-eq-clause-length g c = λ other.
+    let spelt =
+    kept-some (λ bytes. bytes.items) c.args.self.now.stored.items c.args.self.now.database c.args.self.now.changed
+    c.in-Some.changed c.args.self.now.kept (sym c.take.ensures.value ∙ c.in-Some.is)
+    in
+    let one : c.in-Some.changed.items ≡ c.args.self.now.stored.items = search rules in
+    absurd (other (sym (committed-kept c.args.self.now.stored.items c.args.self.now.database c.args.self.now.sound (rw (← one) spelt))))
+
+pub returns-in-Ok-clause-bytes : goal.returns-in-Ok-clause-bytes
+returns-in-Ok-clause-bytes g c = λ told stood other.
+    let spelt =
+    kept-some (λ bytes. bytes.items) c.args.self.now.stored.items c.args.self.now.database c.args.self.now.changed
+    c.in-Some.changed c.args.self.now.kept (sym c.take.ensures.value ∙ c.in-Some.is)
+    in
+    written-bytes c.args.self.now.database c.in-Some.changed.items c.as_slice-3.result.now c.args.self.now.log.gate _ _
+    c.as_slice-3.ensures.value spelt (c.in-Ok.ensures.bytes told stood.0 stood.1)
+
+pub returns-in-Ok-clause-length : goal.returns-in-Ok-clause-length
+returns-in-Ok-clause-length g c = λ other.
+    let spelt =
+    kept-some (λ bytes. bytes.items) c.args.self.now.stored.items c.args.self.now.database c.args.self.now.changed
+    c.in-Some.changed c.args.self.now.kept (sym c.take.ensures.value ∙ c.in-Some.is)
+    in
+    written-length c.args.self.now.database c.in-Some.changed.items c.as_slice-3.result.now _ _ c.as_slice-3.ensures.value
+    spelt c.in-Ok.ensures.length
+
+pub returns-in-Ok-clause-idle_length : goal.returns-in-Ok-clause-idle_length
+returns-in-Ok-clause-idle_length g c = λ same.
+    let spelt =
+    kept-some (λ bytes. bytes.items) c.args.self.now.stored.items c.args.self.now.database c.args.self.now.changed
+    c.in-Some.changed c.args.self.now.kept (sym c.take.ensures.value ∙ c.in-Some.is)
+    in
+    let one : c.in-Some.changed.items ≡ c.args.self.now.stored.items =
+    same-spelling c.args.self.now.database c.args.self.now.stored.items c.in-Some.changed.items
+    c.args.self.now.kept.stored_is spelt same
+    in
+    absurd (search rules)
+
+-- ---- only the log is written
+
+pub returns-in_default-clause-only_log : goal.returns-in_default-clause-only_log
+returns-in_default-clause-only_log g c = λ told. only_start (g.W.World.history c.args.world.now)
+
+pub returns-then-eq-clause-only_log : goal.returns-then-eq-clause-only_log
+returns-then-eq-clause-only_log g c = λ told. only_start (g.W.World.history c.args.world.now)
