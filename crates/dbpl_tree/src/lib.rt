@@ -5,7 +5,6 @@
 
 mod aggregate;
 mod case;
-mod copies;
 mod decl;
 mod designator;
 mod each;
@@ -25,7 +24,6 @@ mod unit;
 
 pub use aggregate::Aggregate;
 pub use case::{Case, CaseOf, Label};
-pub use copies::copy_unit;
 pub use decl::{Common, ConstDecl, Decl, DefinitionItem, PlainDecl, Routine, TypeDecl, VarDecl};
 pub use designator::{Arguments, ArgumentsOf, Designator, DesignatorOf, Part, PartOf};
 pub use each::Each;

@@ -1,0 +1,254 @@
+//! Copies of expressions, factors, aggregates, elements and ranges, which stand inside one another.
+ghost use Rattle.std.specs.Prelude.{◌≡◌, IfOk};
+
+use crate::names::{copy_ident, copy_qual};
+use dbpl_tree::{
+    Added, Aggregate, Arguments, Compared, Designator, Each, Element, Expr, Exprs, Factor,
+    Multiplied, Part, Range, Simple, Term,
+};
+use dbpl_base::{Boxed, List, Memory};
+use std::alloc::Global;
+
+#[cycle(copy_phrases)]
+fn copy_factor(alloc: Global, f: &Factor) -> Result<Factor, Memory>
+    ensures { IfOk result (λ copied. copied ≡ f.now) }
+{
+    match f {
+        Factor::Number(place, n) => Ok(Factor::Number(*place, *n)),
+        Factor::CharCode(place, n) => Ok(Factor::CharCode(*place, *n)),
+        Factor::Text(place, text) => Ok(Factor::Text(*place, text.copy(alloc)?)),
+        Factor::Aggregate(a) => Ok(Factor::Aggregate(copy_aggregate(alloc, a)?)),
+        Factor::Designator(d, a) => {
+            Ok(Factor::Designator(copy_designator(alloc, d)?, copy_arguments(alloc, a)?))
+        }
+        Factor::Parenthesized(place, e) => {
+            Ok(Factor::Parenthesized(*place, copy_boxed_expr(alloc, e)?))
+        }
+        Factor::Not(place, operator, g) => {
+            Ok(Factor::Not(*place, *operator, copy_boxed_factor(alloc, g)?))
+        }
+        Factor::Quantified(place, quantifier, x, r, e) => Ok(Factor::Quantified(
+            *place,
+            *quantifier,
+            copy_ident(alloc, x)?,
+            copy_range(alloc, r)?,
+            copy_boxed_expr(alloc, e)?,
+        )),
+    }
+}
+
+#[cycle(copy_phrases)]
+fn copy_boxed_factor(alloc: Global, f: &Boxed<Factor>) -> Result<Boxed<Factor>, Memory>
+    ensures { IfOk result (λ copied. copied ≡ f.now) }
+{
+    Boxed::new(alloc, copy_factor(alloc, f.get())?)
+}
+
+#[cycle(copy_phrases)]
+fn copy_term(alloc: Global, t: &Term) -> Result<Term, Memory>
+    ensures { IfOk result (λ copied. copied ≡ t.now) }
+{
+    let mut others = List::new(alloc);
+    for m in t.others.as_slice() {
+        others.push(Multiplied {
+            place: m.place,
+            operator: m.operator,
+            factor: copy_factor(alloc, &m.factor)?,
+        })?;
+    }
+    Ok(Term {
+        place: t.place,
+        first: copy_factor(alloc, &t.first)?,
+        others,
+    })
+}
+
+#[cycle(copy_phrases)]
+fn copy_simple(alloc: Global, s: &Simple) -> Result<Simple, Memory>
+    ensures { IfOk result (λ copied. copied ≡ s.now) }
+{
+    let mut others = List::new(alloc);
+    for a in s.others.as_slice() {
+        others.push(Added {
+            place: a.place,
+            operator: a.operator,
+            term: copy_term(alloc, &a.term)?,
+        })?;
+    }
+    Ok(Simple {
+        place: s.place,
+        sign: s.sign,
+        first: copy_term(alloc, &s.first)?,
+        others,
+    })
+}
+
+#[cycle(copy_phrases)]
+fn copy_compared(alloc: Global, c: &Option<Compared>) -> Result<Option<Compared>, Memory>
+    ensures { IfOk result (λ copied. copied ≡ c.now) }
+{
+    match c {
+        Some(c) => Ok(Some(Compared {
+            place: c.place,
+            relation: c.relation,
+            right: copy_simple(alloc, &c.right)?,
+        })),
+        None => Ok(None),
+    }
+}
+
+#[cycle(copy_phrases)]
+pub fn copy_expr(alloc: Global, e: &Expr) -> Result<Expr, Memory>
+    ensures { IfOk result (λ copied. copied ≡ e.now) }
+{
+    Ok(Expr {
+        place: e.place,
+        left: copy_simple(alloc, &e.left)?,
+        right: copy_compared(alloc, &e.right)?,
+    })
+}
+
+#[cycle(copy_phrases)]
+fn copy_boxed_expr(alloc: Global, e: &Boxed<Expr>) -> Result<Boxed<Expr>, Memory>
+    ensures { IfOk result (λ copied. copied ≡ e.now) }
+{
+    Boxed::new(alloc, copy_expr(alloc, e.get())?)
+}
+
+#[cycle(copy_phrases)]
+fn copy_exprs(alloc: Global, es: &Exprs) -> Result<Exprs, Memory>
+    ensures { IfOk result (λ copied. copied ≡ es.now) }
+{
+    let mut others = List::new(alloc);
+    for e in es.others.as_slice() {
+        others.push(copy_expr(alloc, e)?)?;
+    }
+    Ok(Exprs {
+        first: copy_boxed_expr(alloc, &es.first)?,
+        others,
+    })
+}
+
+#[cycle(copy_phrases)]
+fn copy_part(alloc: Global, p: &Part) -> Result<Part, Memory>
+    ensures { IfOk result (λ copied. copied ≡ p.now) }
+{
+    match p {
+        Part::Field(x) => Ok(Part::Field(copy_ident(alloc, x)?)),
+        Part::Subscripts(place, es) => Ok(Part::Subscripts(*place, copy_exprs(alloc, es)?)),
+    }
+}
+
+#[cycle(copy_phrases)]
+pub fn copy_designator(alloc: Global, d: &Designator) -> Result<Designator, Memory>
+    ensures { IfOk result (λ copied. copied ≡ d.now) }
+{
+    let mut parts = List::new(alloc);
+    for part in d.parts.as_slice() {
+        parts.push(copy_part(alloc, part)?)?;
+    }
+    Ok(Designator {
+        head: copy_ident(alloc, &d.head)?,
+        parts,
+    })
+}
+
+#[cycle(copy_phrases)]
+pub fn copy_arguments(alloc: Global, a: &Option<Arguments>) -> Result<Option<Arguments>, Memory>
+    ensures { IfOk result (λ copied. copied ≡ a.now) }
+{
+    match a {
+        Some(
+            Arguments {
+                place,
+                exprs: Some(es),
+            },
+        ) => Ok(Some(Arguments {
+            place: *place,
+            exprs: Some(copy_exprs(alloc, es)?),
+        })),
+        Some(Arguments { place, exprs: None }) => Ok(Some(Arguments {
+            place: *place,
+            exprs: None,
+        })),
+        None => Ok(None),
+    }
+}
+
+#[cycle(copy_phrases)]
+pub fn copy_aggregate(alloc: Global, a: &Aggregate) -> Result<Aggregate, Memory>
+    ensures { IfOk result (λ copied. copied ≡ a.now) }
+{
+    Ok(Aggregate {
+        kind: copy_qual(alloc, &a.kind)?,
+        elements: copy_elements(alloc, &a.elements)?,
+    })
+}
+
+#[cycle(copy_phrases)]
+fn copy_elements(alloc: Global, elements: &List<Element>) -> Result<List<Element>, Memory>
+    ensures { IfOk result (λ copied. copied ≡ elements.now) }
+{
+    let mut copied = List::new(alloc);
+    for element in elements.as_slice() {
+        copied.push(copy_element(alloc, element)?)?;
+    }
+    Ok(copied)
+}
+
+#[cycle(copy_phrases)]
+fn copy_element(alloc: Global, element: &Element) -> Result<Element, Memory>
+    ensures { IfOk result (λ copied. copied ≡ element.now) }
+{
+    match element {
+        Element::Each(c, e) => Ok(Element::Each(copy_each(alloc, c)?, copy_boxed_expr(alloc, e)?)),
+        Element::Plain(e) => Ok(Element::Plain(copy_expr(alloc, e)?)),
+        Element::Of(target, c, cs, e) => Ok(Element::Of(
+            copy_expr(alloc, target)?,
+            copy_each(alloc, c)?,
+            copy_eachs(alloc, cs)?,
+            copy_boxed_expr(alloc, e)?,
+        )),
+    }
+}
+
+#[cycle(copy_phrases)]
+fn copy_each(alloc: Global, c: &Each) -> Result<Each, Memory>
+    ensures { IfOk result (λ copied. copied ≡ c.now) }
+{
+    Ok(Each {
+        place: c.place,
+        variable: copy_ident(alloc, &c.variable)?,
+        range: copy_range(alloc, &c.range)?,
+    })
+}
+
+#[cycle(copy_phrases)]
+fn copy_eachs(alloc: Global, cs: &List<Each>) -> Result<List<Each>, Memory>
+    ensures { IfOk result (λ copied. copied ≡ cs.now) }
+{
+    let mut copied = List::new(alloc);
+    for c in cs.as_slice() {
+        copied.push(copy_each(alloc, c)?)?;
+    }
+    Ok(copied)
+}
+
+#[cycle(copy_phrases)]
+pub fn copy_range(alloc: Global, r: &Range) -> Result<Range, Memory>
+    ensures { IfOk result (λ copied. copied ≡ r.now) }
+{
+    match r {
+        Range::Designator(d) => Ok(Range::Designator(copy_designator(alloc, d)?)),
+        Range::Aggregate(a) => Ok(Range::Aggregate(copy_aggregate(alloc, a)?)),
+    }
+}
+
+pub fn copy_optional_expr(alloc: Global, e: &Option<Expr>) -> Result<Option<Expr>, Memory>
+    ensures { IfOk result (λ copied. copied ≡ e.now) }
+{
+    match e {
+        Some(one) => Ok(Some(copy_expr(alloc, one)?)),
+        None => Ok(None),
+    }
+}

@@ -1,0 +1,222 @@
+//! Copies of statements.
+ghost use Rattle.std.specs.Prelude.{◌≡◌, IfOk};
+
+use crate::expressions::{
+    copy_arguments, copy_designator, copy_expr, copy_optional_expr, copy_range,
+};
+use crate::names::copy_ident;
+use dbpl_tree::{
+    Arguments, Case, ChangeOperator, Designator, Elsif, Expr, Ident, Label, Range, Statement,
+    Statements,
+};
+use dbpl_base::{Boxed, List, Memory, Place};
+use std::alloc::Global;
+
+#[cycle(copy_statements)]
+fn copy_statement(alloc: Global, s: &Statement) -> Result<Statement, Memory>
+    ensures { IfOk result (λ copied. copied ≡ s.now) }
+{
+    match s {
+        Statement::Empty(place) => Ok(Statement::Empty(*place)),
+        Statement::Change(target, place, operator, e) => copy_change(
+            alloc, target, *place, *operator, e,
+        ),
+        Statement::Call(d, a) => copy_call(alloc, d, a),
+        Statement::If(place, e, body, elsifs, otherwise) => Ok(Statement::If(
+            *place,
+            copy_expr(alloc, e)?,
+            copy_body(alloc, body)?,
+            copy_elsifs(alloc, elsifs)?,
+            copy_optional_body(alloc, otherwise)?,
+        )),
+        Statement::Case(place, e, first, others, otherwise) => Ok(Statement::Case(
+            *place,
+            copy_expr(alloc, e)?,
+            copy_case(alloc, first)?,
+            copy_cases(alloc, others)?,
+            copy_optional_body(alloc, otherwise)?,
+        )),
+        Statement::While(place, e, body) => copy_while(alloc, body, *place, e),
+        Statement::Repeat(place, body, e) => copy_repeat(alloc, body, *place, e),
+        Statement::Loop(place, body) => Ok(Statement::Loop(*place, copy_body(alloc, body)?)),
+        Statement::Exit(place) => Ok(Statement::Exit(*place)),
+        Statement::Return(place, e) => Ok(Statement::Return(*place, copy_optional_expr(alloc, e)?)),
+        Statement::For(place, x, first, last, step, body) => copy_for(
+            alloc, body, *place, x, first, last, step,
+        ),
+        Statement::ForEach(place, each, x, r, e, body) => copy_for_each(
+            alloc, body, *place, *each, x, r, e,
+        ),
+    }
+}
+
+fn copy_change(
+    alloc: Global,
+    target: &Designator,
+    place: Place,
+    operator: ChangeOperator,
+    e: &Expr,
+) -> Result<Statement, Memory>
+    ensures { IfOk result (λ copied. copied ≡ Statement.Change target.now place operator e.now) }
+{
+    Ok(Statement::Change(
+        copy_designator(alloc, target)?,
+        place,
+        operator,
+        copy_expr(alloc, e)?,
+    ))
+}
+
+fn copy_call(alloc: Global, d: &Designator, a: &Option<Arguments>) -> Result<Statement, Memory>
+    ensures { IfOk result (λ copied. copied ≡ Statement.Call d.now a.now) }
+{
+    Ok(Statement::Call(copy_designator(alloc, d)?, copy_arguments(alloc, a)?))
+}
+
+#[cycle(copy_statements)]
+fn copy_while(alloc: Global, body: &Statements, place: Place, e: &Expr) -> Result<Statement, Memory>
+    ensures { IfOk result (λ copied. copied ≡ Statement.While place e.now body.now) }
+{
+    Ok(Statement::While(place, copy_expr(alloc, e)?, copy_body(alloc, body)?))
+}
+
+#[cycle(copy_statements)]
+fn copy_repeat(
+    alloc: Global,
+    body: &Statements,
+    place: Place,
+    e: &Expr,
+) -> Result<Statement, Memory>
+    ensures { IfOk result (λ copied. copied ≡ Statement.Repeat place body.now e.now) }
+{
+    Ok(Statement::Repeat(place, copy_body(alloc, body)?, copy_expr(alloc, e)?))
+}
+
+#[cycle(copy_statements)]
+fn copy_for(
+    alloc: Global,
+    body: &Statements,
+    place: Place,
+    x: &Ident,
+    first: &Expr,
+    last: &Expr,
+    step: &Option<Expr>,
+) -> Result<Statement, Memory>
+    ensures { IfOk result (λ copied. copied ≡ Statement.For place x.now first.now last.now step.now body.now) }
+{
+    Ok(Statement::For(
+        place,
+        copy_ident(alloc, x)?,
+        copy_expr(alloc, first)?,
+        copy_expr(alloc, last)?,
+        copy_optional_expr(alloc, step)?,
+        copy_body(alloc, body)?,
+    ))
+}
+
+#[cycle(copy_statements)]
+fn copy_for_each(
+    alloc: Global,
+    body: &Statements,
+    place: Place,
+    each: Place,
+    x: &Ident,
+    r: &Range,
+    e: &Expr,
+) -> Result<Statement, Memory>
+    ensures { IfOk result (λ copied. copied ≡ Statement.ForEach place each x.now r.now e.now body.now) }
+{
+    Ok(Statement::ForEach(
+        place,
+        each,
+        copy_ident(alloc, x)?,
+        copy_range(alloc, r)?,
+        copy_expr(alloc, e)?,
+        copy_body(alloc, body)?,
+    ))
+}
+
+#[cycle(copy_statements)]
+fn copy_body(alloc: Global, body: &Statements) -> Result<Statements, Memory>
+    ensures { IfOk result (λ copied. copied ≡ body.now) }
+{
+    let mut others = List::new(alloc);
+    for s in body.others.as_slice() {
+        others.push(copy_statement(alloc, s)?)?;
+    }
+    Ok(Statements {
+        first: Boxed::new(alloc, copy_statement(alloc, body.first.get())?)?,
+        others,
+    })
+}
+
+#[cycle(copy_statements)]
+pub fn copy_optional_body(
+    alloc: Global,
+    body: &Option<Statements>,
+) -> Result<Option<Statements>, Memory>
+    ensures { IfOk result (λ copied. copied ≡ body.now) }
+{
+    match body {
+        Some(one) => Ok(Some(copy_body(alloc, one)?)),
+        None => Ok(None),
+    }
+}
+
+#[cycle(copy_statements)]
+fn copy_elsifs(alloc: Global, elsifs: &List<Elsif>) -> Result<List<Elsif>, Memory>
+    ensures { IfOk result (λ copied. copied ≡ elsifs.now) }
+{
+    let mut copied = List::new(alloc);
+    for elsif in elsifs.as_slice() {
+        copied.push(Elsif {
+            condition: copy_expr(alloc, &elsif.condition)?,
+            body: copy_body(alloc, &elsif.body)?,
+        })?;
+    }
+    Ok(copied)
+}
+
+#[cycle(copy_statements)]
+fn copy_case(alloc: Global, case: &Case) -> Result<Case, Memory>
+    ensures { IfOk result (λ copied. copied ≡ case.now) }
+{
+    match case {
+        Case::Empty(place) => Ok(Case::Empty(*place)),
+        Case::Labelled(first, others, body) => Ok(Case::Labelled(
+            copy_label(alloc, first)?,
+            copy_labels(alloc, others)?,
+            copy_body(alloc, body)?,
+        )),
+    }
+}
+
+#[cycle(copy_statements)]
+fn copy_cases(alloc: Global, others: &List<Case>) -> Result<List<Case>, Memory>
+    ensures { IfOk result (λ copied. copied ≡ others.now) }
+{
+    let mut copied = List::new(alloc);
+    for other in others.as_slice() {
+        copied.push(copy_case(alloc, other)?)?;
+    }
+    Ok(copied)
+}
+
+fn copy_label(alloc: Global, label: &Label) -> Result<Label, Memory>
+    ensures { IfOk result (λ copied. copied ≡ label.now) }
+{
+    Ok(Label {
+        low: copy_expr(alloc, &label.low)?,
+        high: copy_optional_expr(alloc, &label.high)?,
+    })
+}
+
+fn copy_labels(alloc: Global, others: &List<Label>) -> Result<List<Label>, Memory>
+    ensures { IfOk result (λ copied. copied ≡ others.now) }
+{
+    let mut copied = List::new(alloc);
+    for other in others.as_slice() {
+        copied.push(copy_label(alloc, other)?)?;
+    }
+    Ok(copied)
+}
