@@ -3,23 +3,25 @@ ghost use Rattle.std.specs.Prelude.{◌≡◌, IfOk};
 
 use crate::expressions::{copy_aggregate, copy_expr};
 use crate::names::{copy_ident, copy_idents, copy_optional_qual, copy_qual};
+use crate::pair::pair;
 use crate::statements::copy_optional_body;
 use crate::types::copy_type;
-use dbpl_tree::{
-    Common, ConstDecl, Decl, DefinitionItem, Heading, Params, PlainDecl, Routine, Section,
-    Signature, TypeDecl, VarDecl,
-};
 use dbpl_base::{List, Memory};
+use dbpl_tree::{
+    Common, ConstDecl, Decl, DefinitionItem, Expr, Heading, Ident, Params, PlainDecl, Qual,
+    Routine, Section, Signature, TypeDecl, VarDecl,
+};
 use std::alloc::Global;
 
 fn copy_section(alloc: Global, s: &Section) -> Result<Section, Memory>
     ensures { IfOk result (λ copied. copied ≡ s.now) }
 {
+    let (names, kind) = pair(copy_idents(alloc, &s.names)?, copy_qual(alloc, &s.kind))?;
     Ok(Section {
         place: s.place,
         by_reference: s.by_reference,
-        names: copy_idents(alloc, &s.names)?,
-        kind: copy_qual(alloc, &s.kind)?,
+        names,
+        kind,
     })
 }
 
@@ -49,10 +51,13 @@ fn copy_signature(alloc: Global, s: &Option<Signature>) -> Result<Option<Signatu
     ensures { IfOk result (λ copied. copied ≡ s.now) }
 {
     match s {
-        Some(one) => Ok(Some(Signature {
-            params: copy_params(alloc, &one.params)?,
-            result: copy_optional_qual(alloc, &one.result)?,
-        })),
+        Some(one) => {
+            let (params, result) = pair(
+                copy_params(alloc, &one.params)?,
+                copy_optional_qual(alloc, &one.result),
+            )?;
+            Ok(Some(Signature { params, result }))
+        }
         None => Ok(None),
     }
 }
@@ -60,12 +65,23 @@ fn copy_signature(alloc: Global, s: &Option<Signature>) -> Result<Option<Signatu
 fn copy_heading(alloc: Global, h: &Heading) -> Result<Heading, Memory>
     ensures { IfOk result (λ copied. copied ≡ h.now) }
 {
+    let (name, signature) = pair(
+        copy_ident(alloc, &h.name)?,
+        copy_signature(alloc, &h.signature),
+    )?;
     Ok(Heading {
         place: h.place,
         word: h.word,
-        name: copy_ident(alloc, &h.name)?,
-        signature: copy_signature(alloc, &h.signature)?,
+        name,
+        signature,
     })
+}
+
+fn copy_const(alloc: Global, d: &ConstDecl) -> Result<ConstDecl, Memory>
+    ensures { IfOk result (λ copied. copied ≡ d.now) }
+{
+    let (name, value) = pair(copy_ident(alloc, &d.name)?, copy_expr(alloc, &d.value))?;
+    Ok(ConstDecl { name, value })
 }
 
 fn copy_consts(alloc: Global, ds: &List<ConstDecl>) -> Result<List<ConstDecl>, Memory>
@@ -73,12 +89,16 @@ fn copy_consts(alloc: Global, ds: &List<ConstDecl>) -> Result<List<ConstDecl>, M
 {
     let mut copied = List::new(alloc);
     for d in ds.as_slice() {
-        copied.push(ConstDecl {
-            name: copy_ident(alloc, &d.name)?,
-            value: copy_expr(alloc, &d.value)?,
-        })?;
+        copied.push(copy_const(alloc, d)?)?;
     }
     Ok(copied)
+}
+
+fn copy_type_decl(alloc: Global, d: &TypeDecl) -> Result<TypeDecl, Memory>
+    ensures { IfOk result (λ copied. copied ≡ d.now) }
+{
+    let (name, kind) = pair(copy_ident(alloc, &d.name)?, copy_type(alloc, &d.kind))?;
+    Ok(TypeDecl { name, kind })
 }
 
 fn copy_type_decls(alloc: Global, ds: &List<TypeDecl>) -> Result<List<TypeDecl>, Memory>
@@ -86,12 +106,16 @@ fn copy_type_decls(alloc: Global, ds: &List<TypeDecl>) -> Result<List<TypeDecl>,
 {
     let mut copied = List::new(alloc);
     for d in ds.as_slice() {
-        copied.push(TypeDecl {
-            name: copy_ident(alloc, &d.name)?,
-            kind: copy_type(alloc, &d.kind)?,
-        })?;
+        copied.push(copy_type_decl(alloc, d)?)?;
     }
     Ok(copied)
+}
+
+fn copy_var(alloc: Global, d: &VarDecl) -> Result<VarDecl, Memory>
+    ensures { IfOk result (λ copied. copied ≡ d.now) }
+{
+    let (names, kind) = pair(copy_idents(alloc, &d.names)?, copy_type(alloc, &d.kind))?;
+    Ok(VarDecl { names, kind })
 }
 
 fn copy_vars(alloc: Global, ds: &List<VarDecl>) -> Result<List<VarDecl>, Memory>
@@ -99,10 +123,7 @@ fn copy_vars(alloc: Global, ds: &List<VarDecl>) -> Result<List<VarDecl>, Memory>
 {
     let mut copied = List::new(alloc);
     for d in ds.as_slice() {
-        copied.push(VarDecl {
-            names: copy_idents(alloc, &d.names)?,
-            kind: copy_type(alloc, &d.kind)?,
-        })?;
+        copied.push(copy_var(alloc, d)?)?;
     }
     Ok(copied)
 }
@@ -117,25 +138,54 @@ fn copy_plain(alloc: Global, d: &PlainDecl) -> Result<PlainDecl, Memory>
     }
 }
 
+/// A name, and the parameters behind it.
+fn copy_named(
+    alloc: Global,
+    name: &Ident,
+    params: &Option<Params>,
+) -> Result<(Ident, Option<Params>), Memory>
+    ensures { IfOk result (λ copied. copied ≡ (name.now, params.now)) }
+{
+    pair(
+        copy_ident(alloc, name)?,
+        copy_optional_params(alloc, params),
+    )
+}
+
+/// The variable of a selector, the type of what it ranges over, and the predicate.
+fn copy_selected(
+    alloc: Global,
+    x: &Ident,
+    q: &Qual,
+    e: &Expr,
+) -> Result<((Ident, Qual), Expr), Memory>
+    ensures { IfOk result (λ copied. copied ≡ ((x.now, q.now), e.now)) }
+{
+    pair(
+        pair(copy_ident(alloc, x)?, copy_qual(alloc, q))?,
+        copy_expr(alloc, e),
+    )
+}
+
 fn copy_common(alloc: Global, d: &Common) -> Result<Common, Memory>
     ensures { IfOk result (λ copied. copied ≡ d.now) }
 {
     match d {
         Common::Plain(p) => Ok(Common::Plain(copy_plain(alloc, p)?)),
-        Common::Selector(place, name, params, x, q, e) => Ok(Common::Selector(
-            *place,
-            copy_ident(alloc, name)?,
-            copy_optional_params(alloc, params)?,
-            copy_ident(alloc, x)?,
-            copy_qual(alloc, q)?,
-            copy_expr(alloc, e)?,
-        )),
-        Common::Constructor(place, name, params, a) => Ok(Common::Constructor(
-            *place,
-            copy_ident(alloc, name)?,
-            copy_optional_params(alloc, params)?,
-            copy_aggregate(alloc, a)?,
-        )),
+        Common::Selector(place, name, params, x, q, e) => {
+            let ((name, params), ((x, q), e)) = pair(
+                copy_named(alloc, name, params)?,
+                copy_selected(alloc, x, q, e),
+            )?;
+            Ok(Common::Selector(*place, name, params, x, q, e))
+        }
+        Common::Constructor(place, name, params, a) => {
+            let ((name, params), a) = pair(
+                copy_named(alloc, name, params)?,
+                copy_aggregate(alloc, a),
+            )?;
+            Ok(Common::Constructor(*place, name, params, a))
+        }
     }
 }
 
@@ -149,19 +199,35 @@ pub fn copy_commons(alloc: Global, ds: &List<Common>) -> Result<List<Common>, Me
     Ok(copied)
 }
 
+fn copy_plains(alloc: Global, ds: &List<PlainDecl>) -> Result<List<PlainDecl>, Memory>
+    ensures { IfOk result (λ copied. copied ≡ ds.now) }
+{
+    let mut copied = List::new(alloc);
+    for d in ds.as_slice() {
+        copied.push(copy_plain(alloc, d)?)?;
+    }
+    Ok(copied)
+}
+
 fn copy_routine(alloc: Global, r: &Routine) -> Result<Routine, Memory>
     ensures { IfOk result (λ copied. copied ≡ r.now) }
 {
-    let mut declarations = List::new(alloc);
-    for d in r.declarations.as_slice() {
-        declarations.push(copy_plain(alloc, d)?)?;
-    }
+    let (((heading, declarations), body), end_name) = pair(
+        pair(
+            pair(
+                copy_heading(alloc, &r.heading)?,
+                copy_plains(alloc, &r.declarations),
+            )?,
+            copy_optional_body(alloc, &r.body),
+        )?,
+        copy_ident(alloc, &r.end_name),
+    )?;
     Ok(Routine {
-        heading: copy_heading(alloc, &r.heading)?,
+        heading,
         declarations,
-        body: copy_optional_body(alloc, &r.body)?,
+        body,
         end: r.end,
-        end_name: copy_ident(alloc, &r.end_name)?,
+        end_name,
     })
 }
 

@@ -2,11 +2,12 @@
 ghost use Rattle.std.specs.Prelude.{◌≡◌, IfOk};
 
 use crate::names::{copy_ident, copy_qual};
+use crate::pair::pair;
+use dbpl_base::{Boxed, List, Memory};
 use dbpl_tree::{
     Added, Aggregate, Arguments, Compared, Designator, Each, Element, Expr, Exprs, Factor,
     Multiplied, Part, Range, Simple, Term,
 };
-use dbpl_base::{Boxed, List, Memory};
 use std::alloc::Global;
 
 #[cycle(copy_phrases)]
@@ -19,7 +20,8 @@ fn copy_factor(alloc: Global, f: &Factor) -> Result<Factor, Memory>
         Factor::Text(place, text) => Ok(Factor::Text(*place, text.copy(alloc)?)),
         Factor::Aggregate(a) => Ok(Factor::Aggregate(copy_aggregate(alloc, a)?)),
         Factor::Designator(d, a) => {
-            Ok(Factor::Designator(copy_designator(alloc, d)?, copy_arguments(alloc, a)?))
+            let (d, a) = pair(copy_designator(alloc, d)?, copy_arguments(alloc, a))?;
+            Ok(Factor::Designator(d, a))
         }
         Factor::Parenthesized(place, e) => {
             Ok(Factor::Parenthesized(*place, copy_boxed_expr(alloc, e)?))
@@ -27,13 +29,13 @@ fn copy_factor(alloc: Global, f: &Factor) -> Result<Factor, Memory>
         Factor::Not(place, operator, g) => {
             Ok(Factor::Not(*place, *operator, copy_boxed_factor(alloc, g)?))
         }
-        Factor::Quantified(place, quantifier, x, r, e) => Ok(Factor::Quantified(
-            *place,
-            *quantifier,
-            copy_ident(alloc, x)?,
-            copy_range(alloc, r)?,
-            copy_boxed_expr(alloc, e)?,
-        )),
+        Factor::Quantified(place, quantifier, x, r, e) => {
+            let ((x, r), e) = pair(
+                pair(copy_ident(alloc, x)?, copy_range(alloc, r))?,
+                copy_boxed_expr(alloc, e),
+            )?;
+            Ok(Factor::Quantified(*place, *quantifier, x, r, e))
+        }
     }
 }
 
@@ -45,40 +47,59 @@ fn copy_boxed_factor(alloc: Global, f: &Boxed<Factor>) -> Result<Boxed<Factor>, 
 }
 
 #[cycle(copy_phrases)]
-fn copy_term(alloc: Global, t: &Term) -> Result<Term, Memory>
-    ensures { IfOk result (λ copied. copied ≡ t.now) }
+fn copy_multiplied(alloc: Global, others: &List<Multiplied>) -> Result<List<Multiplied>, Memory>
+    ensures { IfOk result (λ copied. copied ≡ others.now) }
 {
-    let mut others = List::new(alloc);
-    for m in t.others.as_slice() {
-        others.push(Multiplied {
+    let mut copied = List::new(alloc);
+    for m in others.as_slice() {
+        copied.push(Multiplied {
             place: m.place,
             operator: m.operator,
             factor: copy_factor(alloc, &m.factor)?,
         })?;
     }
+    Ok(copied)
+}
+
+#[cycle(copy_phrases)]
+fn copy_term(alloc: Global, t: &Term) -> Result<Term, Memory>
+    ensures { IfOk result (λ copied. copied ≡ t.now) }
+{
+    let (first, others) = pair(
+        copy_factor(alloc, &t.first)?,
+        copy_multiplied(alloc, &t.others),
+    )?;
     Ok(Term {
         place: t.place,
-        first: copy_factor(alloc, &t.first)?,
+        first,
         others,
     })
+}
+
+#[cycle(copy_phrases)]
+fn copy_added(alloc: Global, others: &List<Added>) -> Result<List<Added>, Memory>
+    ensures { IfOk result (λ copied. copied ≡ others.now) }
+{
+    let mut copied = List::new(alloc);
+    for a in others.as_slice() {
+        copied.push(Added {
+            place: a.place,
+            operator: a.operator,
+            term: copy_term(alloc, &a.term)?,
+        })?;
+    }
+    Ok(copied)
 }
 
 #[cycle(copy_phrases)]
 fn copy_simple(alloc: Global, s: &Simple) -> Result<Simple, Memory>
     ensures { IfOk result (λ copied. copied ≡ s.now) }
 {
-    let mut others = List::new(alloc);
-    for a in s.others.as_slice() {
-        others.push(Added {
-            place: a.place,
-            operator: a.operator,
-            term: copy_term(alloc, &a.term)?,
-        })?;
-    }
+    let (first, others) = pair(copy_term(alloc, &s.first)?, copy_added(alloc, &s.others))?;
     Ok(Simple {
         place: s.place,
         sign: s.sign,
-        first: copy_term(alloc, &s.first)?,
+        first,
         others,
     })
 }
@@ -101,10 +122,11 @@ fn copy_compared(alloc: Global, c: &Option<Compared>) -> Result<Option<Compared>
 pub fn copy_expr(alloc: Global, e: &Expr) -> Result<Expr, Memory>
     ensures { IfOk result (λ copied. copied ≡ e.now) }
 {
+    let (left, right) = pair(copy_simple(alloc, &e.left)?, copy_compared(alloc, &e.right))?;
     Ok(Expr {
         place: e.place,
-        left: copy_simple(alloc, &e.left)?,
-        right: copy_compared(alloc, &e.right)?,
+        left,
+        right,
     })
 }
 
@@ -116,17 +138,25 @@ fn copy_boxed_expr(alloc: Global, e: &Boxed<Expr>) -> Result<Boxed<Expr>, Memory
 }
 
 #[cycle(copy_phrases)]
+fn copy_expr_list(alloc: Global, others: &List<Expr>) -> Result<List<Expr>, Memory>
+    ensures { IfOk result (λ copied. copied ≡ others.now) }
+{
+    let mut copied = List::new(alloc);
+    for e in others.as_slice() {
+        copied.push(copy_expr(alloc, e)?)?;
+    }
+    Ok(copied)
+}
+
+#[cycle(copy_phrases)]
 fn copy_exprs(alloc: Global, es: &Exprs) -> Result<Exprs, Memory>
     ensures { IfOk result (λ copied. copied ≡ es.now) }
 {
-    let mut others = List::new(alloc);
-    for e in es.others.as_slice() {
-        others.push(copy_expr(alloc, e)?)?;
-    }
-    Ok(Exprs {
-        first: copy_boxed_expr(alloc, &es.first)?,
-        others,
-    })
+    let (first, others) = pair(
+        copy_boxed_expr(alloc, &es.first)?,
+        copy_expr_list(alloc, &es.others),
+    )?;
+    Ok(Exprs { first, others })
 }
 
 #[cycle(copy_phrases)]
@@ -140,17 +170,22 @@ fn copy_part(alloc: Global, p: &Part) -> Result<Part, Memory>
 }
 
 #[cycle(copy_phrases)]
+fn copy_parts(alloc: Global, parts: &List<Part>) -> Result<List<Part>, Memory>
+    ensures { IfOk result (λ copied. copied ≡ parts.now) }
+{
+    let mut copied = List::new(alloc);
+    for part in parts.as_slice() {
+        copied.push(copy_part(alloc, part)?)?;
+    }
+    Ok(copied)
+}
+
+#[cycle(copy_phrases)]
 pub fn copy_designator(alloc: Global, d: &Designator) -> Result<Designator, Memory>
     ensures { IfOk result (λ copied. copied ≡ d.now) }
 {
-    let mut parts = List::new(alloc);
-    for part in d.parts.as_slice() {
-        parts.push(copy_part(alloc, part)?)?;
-    }
-    Ok(Designator {
-        head: copy_ident(alloc, &d.head)?,
-        parts,
-    })
+    let (head, parts) = pair(copy_ident(alloc, &d.head)?, copy_parts(alloc, &d.parts))?;
+    Ok(Designator { head, parts })
 }
 
 #[cycle(copy_phrases)]
@@ -179,10 +214,11 @@ pub fn copy_arguments(alloc: Global, a: &Option<Arguments>) -> Result<Option<Arg
 pub fn copy_aggregate(alloc: Global, a: &Aggregate) -> Result<Aggregate, Memory>
     ensures { IfOk result (λ copied. copied ≡ a.now) }
 {
-    Ok(Aggregate {
-        kind: copy_qual(alloc, &a.kind)?,
-        elements: copy_elements(alloc, &a.elements)?,
-    })
+    let (kind, elements) = pair(
+        copy_qual(alloc, &a.kind)?,
+        copy_elements(alloc, &a.elements),
+    )?;
+    Ok(Aggregate { kind, elements })
 }
 
 #[cycle(copy_phrases)]
@@ -201,14 +237,21 @@ fn copy_element(alloc: Global, element: &Element) -> Result<Element, Memory>
     ensures { IfOk result (λ copied. copied ≡ element.now) }
 {
     match element {
-        Element::Each(c, e) => Ok(Element::Each(copy_each(alloc, c)?, copy_boxed_expr(alloc, e)?)),
+        Element::Each(c, e) => {
+            let (c, e) = pair(copy_each(alloc, c)?, copy_boxed_expr(alloc, e))?;
+            Ok(Element::Each(c, e))
+        }
         Element::Plain(e) => Ok(Element::Plain(copy_expr(alloc, e)?)),
-        Element::Of(target, c, cs, e) => Ok(Element::Of(
-            copy_expr(alloc, target)?,
-            copy_each(alloc, c)?,
-            copy_eachs(alloc, cs)?,
-            copy_boxed_expr(alloc, e)?,
-        )),
+        Element::Of(target, c, cs, e) => {
+            let (((target, c), cs), e) = pair(
+                pair(
+                    pair(copy_expr(alloc, target)?, copy_each(alloc, c))?,
+                    copy_eachs(alloc, cs),
+                )?,
+                copy_boxed_expr(alloc, e),
+            )?;
+            Ok(Element::Of(target, c, cs, e))
+        }
     }
 }
 
@@ -216,10 +259,11 @@ fn copy_element(alloc: Global, element: &Element) -> Result<Element, Memory>
 fn copy_each(alloc: Global, c: &Each) -> Result<Each, Memory>
     ensures { IfOk result (λ copied. copied ≡ c.now) }
 {
+    let (variable, range) = pair(copy_ident(alloc, &c.variable)?, copy_range(alloc, &c.range))?;
     Ok(Each {
         place: c.place,
-        variable: copy_ident(alloc, &c.variable)?,
-        range: copy_range(alloc, &c.range)?,
+        variable,
+        range,
     })
 }
 

@@ -4,6 +4,7 @@
 mod declarations;
 mod expressions;
 mod names;
+mod pair;
 mod statements;
 mod types;
 mod units;

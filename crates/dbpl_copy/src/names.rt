@@ -1,8 +1,9 @@
 //! Copies of names.
 ghost use Rattle.std.specs.Prelude.{◌≡◌, IfOk};
 
-use dbpl_tree::{Ident, Idents, Qual};
+use crate::pair::pair;
 use dbpl_base::{List, Memory};
+use dbpl_tree::{Ident, Idents, Qual};
 use std::alloc::Global;
 
 pub fn copy_ident(alloc: Global, x: &Ident) -> Result<Ident, Memory>
@@ -17,14 +18,21 @@ pub fn copy_ident(alloc: Global, x: &Ident) -> Result<Ident, Memory>
 pub fn copy_idents(alloc: Global, names: &Idents) -> Result<Idents, Memory>
     ensures { IfOk result (λ copied. copied ≡ names.now) }
 {
-    let mut others = List::new(alloc);
-    for name in names.others.as_slice() {
-        others.push(copy_ident(alloc, name)?)?;
+    let (first, others) = pair(
+        copy_ident(alloc, &names.first)?,
+        copy_ident_list(alloc, &names.others),
+    )?;
+    Ok(Idents { first, others })
+}
+
+fn copy_ident_list(alloc: Global, others: &List<Ident>) -> Result<List<Ident>, Memory>
+    ensures { IfOk result (λ copied. copied ≡ others.now) }
+{
+    let mut copied = List::new(alloc);
+    for other in others.as_slice() {
+        copied.push(copy_ident(alloc, other)?)?;
     }
-    Ok(Idents {
-        first: copy_ident(alloc, &names.first)?,
-        others,
-    })
+    Ok(copied)
 }
 
 fn copy_optional_ident(alloc: Global, x: &Option<Ident>) -> Result<Option<Ident>, Memory>
@@ -39,10 +47,11 @@ fn copy_optional_ident(alloc: Global, x: &Option<Ident>) -> Result<Option<Ident>
 pub fn copy_qual(alloc: Global, q: &Qual) -> Result<Qual, Memory>
     ensures { IfOk result (λ copied. copied ≡ q.now) }
 {
-    Ok(Qual {
-        first: copy_ident(alloc, &q.first)?,
-        second: copy_optional_ident(alloc, &q.second)?,
-    })
+    let (first, second) = pair(
+        copy_ident(alloc, &q.first)?,
+        copy_optional_ident(alloc, &q.second),
+    )?;
+    Ok(Qual { first, second })
 }
 
 pub fn copy_optional_qual(alloc: Global, q: &Option<Qual>) -> Result<Option<Qual>, Memory>

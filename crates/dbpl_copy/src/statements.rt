@@ -5,11 +5,12 @@ use crate::expressions::{
     copy_arguments, copy_designator, copy_expr, copy_optional_expr, copy_range,
 };
 use crate::names::copy_ident;
+use crate::pair::pair;
+use dbpl_base::{Boxed, List, Memory, Place};
 use dbpl_tree::{
     Arguments, Case, ChangeOperator, Designator, Elsif, Expr, Ident, Label, Range, Statement,
     Statements,
 };
-use dbpl_base::{Boxed, List, Memory, Place};
 use std::alloc::Global;
 
 #[cycle(copy_statements)]
@@ -22,20 +23,26 @@ fn copy_statement(alloc: Global, s: &Statement) -> Result<Statement, Memory>
             alloc, target, *place, *operator, e,
         ),
         Statement::Call(d, a) => copy_call(alloc, d, a),
-        Statement::If(place, e, body, elsifs, otherwise) => Ok(Statement::If(
-            *place,
-            copy_expr(alloc, e)?,
-            copy_body(alloc, body)?,
-            copy_elsifs(alloc, elsifs)?,
-            copy_optional_body(alloc, otherwise)?,
-        )),
-        Statement::Case(place, e, first, others, otherwise) => Ok(Statement::Case(
-            *place,
-            copy_expr(alloc, e)?,
-            copy_case(alloc, first)?,
-            copy_cases(alloc, others)?,
-            copy_optional_body(alloc, otherwise)?,
-        )),
+        Statement::If(place, e, body, elsifs, otherwise) => {
+            let (((e, body), elsifs), otherwise) = pair(
+                pair(
+                    pair(copy_expr(alloc, e)?, copy_body(alloc, body))?,
+                    copy_elsifs(alloc, elsifs),
+                )?,
+                copy_optional_body(alloc, otherwise),
+            )?;
+            Ok(Statement::If(*place, e, body, elsifs, otherwise))
+        }
+        Statement::Case(place, e, first, others, otherwise) => {
+            let (((e, first), others), otherwise) = pair(
+                pair(
+                    pair(copy_expr(alloc, e)?, copy_case(alloc, first))?,
+                    copy_cases(alloc, others),
+                )?,
+                copy_optional_body(alloc, otherwise),
+            )?;
+            Ok(Statement::Case(*place, e, first, others, otherwise))
+        }
         Statement::While(place, e, body) => copy_while(alloc, body, *place, e),
         Statement::Repeat(place, body, e) => copy_repeat(alloc, body, *place, e),
         Statement::Loop(place, body) => Ok(Statement::Loop(*place, copy_body(alloc, body)?)),
@@ -59,25 +66,23 @@ fn copy_change(
 ) -> Result<Statement, Memory>
     ensures { IfOk result (λ copied. copied ≡ Statement.Change target.now place operator e.now) }
 {
-    Ok(Statement::Change(
-        copy_designator(alloc, target)?,
-        place,
-        operator,
-        copy_expr(alloc, e)?,
-    ))
+    let (target, e) = pair(copy_designator(alloc, target)?, copy_expr(alloc, e))?;
+    Ok(Statement::Change(target, place, operator, e))
 }
 
 fn copy_call(alloc: Global, d: &Designator, a: &Option<Arguments>) -> Result<Statement, Memory>
     ensures { IfOk result (λ copied. copied ≡ Statement.Call d.now a.now) }
 {
-    Ok(Statement::Call(copy_designator(alloc, d)?, copy_arguments(alloc, a)?))
+    let (d, a) = pair(copy_designator(alloc, d)?, copy_arguments(alloc, a))?;
+    Ok(Statement::Call(d, a))
 }
 
 #[cycle(copy_statements)]
 fn copy_while(alloc: Global, body: &Statements, place: Place, e: &Expr) -> Result<Statement, Memory>
     ensures { IfOk result (λ copied. copied ≡ Statement.While place e.now body.now) }
 {
-    Ok(Statement::While(place, copy_expr(alloc, e)?, copy_body(alloc, body)?))
+    let (e, body) = pair(copy_expr(alloc, e)?, copy_body(alloc, body))?;
+    Ok(Statement::While(place, e, body))
 }
 
 #[cycle(copy_statements)]
@@ -89,7 +94,23 @@ fn copy_repeat(
 ) -> Result<Statement, Memory>
     ensures { IfOk result (λ copied. copied ≡ Statement.Repeat place body.now e.now) }
 {
-    Ok(Statement::Repeat(place, copy_body(alloc, body)?, copy_expr(alloc, e)?))
+    let (body, e) = pair(copy_body(alloc, body)?, copy_expr(alloc, e))?;
+    Ok(Statement::Repeat(place, body, e))
+}
+
+/// From where to where FOR goes, and by which steps.
+fn copy_steps(
+    alloc: Global,
+    first: &Expr,
+    last: &Expr,
+    step: &Option<Expr>,
+) -> Result<((Expr, Expr), Option<Expr>), Memory>
+    ensures { IfOk result (λ copied. copied ≡ ((first.now, last.now), step.now)) }
+{
+    pair(
+        pair(copy_expr(alloc, first)?, copy_expr(alloc, last))?,
+        copy_optional_expr(alloc, step),
+    )
 }
 
 #[cycle(copy_statements)]
@@ -104,14 +125,11 @@ fn copy_for(
 ) -> Result<Statement, Memory>
     ensures { IfOk result (λ copied. copied ≡ Statement.For place x.now first.now last.now step.now body.now) }
 {
-    Ok(Statement::For(
-        place,
-        copy_ident(alloc, x)?,
-        copy_expr(alloc, first)?,
-        copy_expr(alloc, last)?,
-        copy_optional_expr(alloc, step)?,
-        copy_body(alloc, body)?,
-    ))
+    let ((x, ((first, last), step)), body) = pair(
+        pair(copy_ident(alloc, x)?, copy_steps(alloc, first, last, step))?,
+        copy_body(alloc, body),
+    )?;
+    Ok(Statement::For(place, x, first, last, step, body))
 }
 
 #[cycle(copy_statements)]
@@ -126,28 +144,43 @@ fn copy_for_each(
 ) -> Result<Statement, Memory>
     ensures { IfOk result (λ copied. copied ≡ Statement.ForEach place each x.now r.now e.now body.now) }
 {
-    Ok(Statement::ForEach(
-        place,
-        each,
-        copy_ident(alloc, x)?,
-        copy_range(alloc, r)?,
-        copy_expr(alloc, e)?,
-        copy_body(alloc, body)?,
-    ))
+    let (((x, r), e), body) = pair(
+        pair(
+            pair(copy_ident(alloc, x)?, copy_range(alloc, r))?,
+            copy_expr(alloc, e),
+        )?,
+        copy_body(alloc, body),
+    )?;
+    Ok(Statement::ForEach(place, each, x, r, e, body))
+}
+
+#[cycle(copy_statements)]
+fn copy_boxed_statement(alloc: Global, s: &Boxed<Statement>) -> Result<Boxed<Statement>, Memory>
+    ensures { IfOk result (λ copied. copied ≡ s.now) }
+{
+    Boxed::new(alloc, copy_statement(alloc, s.get())?)
+}
+
+#[cycle(copy_statements)]
+fn copy_list(alloc: Global, others: &List<Statement>) -> Result<List<Statement>, Memory>
+    ensures { IfOk result (λ copied. copied ≡ others.now) }
+{
+    let mut copied = List::new(alloc);
+    for s in others.as_slice() {
+        copied.push(copy_statement(alloc, s)?)?;
+    }
+    Ok(copied)
 }
 
 #[cycle(copy_statements)]
 fn copy_body(alloc: Global, body: &Statements) -> Result<Statements, Memory>
     ensures { IfOk result (λ copied. copied ≡ body.now) }
 {
-    let mut others = List::new(alloc);
-    for s in body.others.as_slice() {
-        others.push(copy_statement(alloc, s)?)?;
-    }
-    Ok(Statements {
-        first: Boxed::new(alloc, copy_statement(alloc, body.first.get())?)?,
-        others,
-    })
+    let (first, others) = pair(
+        copy_boxed_statement(alloc, &body.first)?,
+        copy_list(alloc, &body.others),
+    )?;
+    Ok(Statements { first, others })
 }
 
 #[cycle(copy_statements)]
@@ -164,15 +197,23 @@ pub fn copy_optional_body(
 }
 
 #[cycle(copy_statements)]
+fn copy_elsif(alloc: Global, elsif: &Elsif) -> Result<Elsif, Memory>
+    ensures { IfOk result (λ copied. copied ≡ elsif.now) }
+{
+    let (condition, body) = pair(
+        copy_expr(alloc, &elsif.condition)?,
+        copy_body(alloc, &elsif.body),
+    )?;
+    Ok(Elsif { condition, body })
+}
+
+#[cycle(copy_statements)]
 fn copy_elsifs(alloc: Global, elsifs: &List<Elsif>) -> Result<List<Elsif>, Memory>
     ensures { IfOk result (λ copied. copied ≡ elsifs.now) }
 {
     let mut copied = List::new(alloc);
     for elsif in elsifs.as_slice() {
-        copied.push(Elsif {
-            condition: copy_expr(alloc, &elsif.condition)?,
-            body: copy_body(alloc, &elsif.body)?,
-        })?;
+        copied.push(copy_elsif(alloc, elsif)?)?;
     }
     Ok(copied)
 }
@@ -183,11 +224,13 @@ fn copy_case(alloc: Global, case: &Case) -> Result<Case, Memory>
 {
     match case {
         Case::Empty(place) => Ok(Case::Empty(*place)),
-        Case::Labelled(first, others, body) => Ok(Case::Labelled(
-            copy_label(alloc, first)?,
-            copy_labels(alloc, others)?,
-            copy_body(alloc, body)?,
-        )),
+        Case::Labelled(first, others, body) => {
+            let ((first, others), body) = pair(
+                pair(copy_label(alloc, first)?, copy_labels(alloc, others))?,
+                copy_body(alloc, body),
+            )?;
+            Ok(Case::Labelled(first, others, body))
+        }
     }
 }
 
@@ -205,10 +248,11 @@ fn copy_cases(alloc: Global, others: &List<Case>) -> Result<List<Case>, Memory>
 fn copy_label(alloc: Global, label: &Label) -> Result<Label, Memory>
     ensures { IfOk result (λ copied. copied ≡ label.now) }
 {
-    Ok(Label {
-        low: copy_expr(alloc, &label.low)?,
-        high: copy_optional_expr(alloc, &label.high)?,
-    })
+    let (low, high) = pair(
+        copy_expr(alloc, &label.low)?,
+        copy_optional_expr(alloc, &label.high),
+    )?;
+    Ok(Label { low, high })
 }
 
 fn copy_labels(alloc: Global, others: &List<Label>) -> Result<List<Label>, Memory>

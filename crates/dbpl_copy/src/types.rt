@@ -3,8 +3,9 @@ ghost use Rattle.std.specs.Prelude.{◌≡◌, IfOk};
 
 use crate::expressions::copy_expr;
 use crate::names::{copy_idents, copy_qual};
-use dbpl_tree::{Fields, TypeTree};
+use crate::pair::pair;
 use dbpl_base::{Boxed, List, Memory};
+use dbpl_tree::{Fields, TypeTree};
 use std::alloc::Global;
 
 #[cycle(copy_types)]
@@ -18,23 +19,38 @@ pub fn copy_type(alloc: Global, t: &TypeTree) -> Result<TypeTree, Memory>
             copy_idents(alloc, names)?,
         )),
         TypeTree::Subrange(place, low, high) => {
-            Ok(TypeTree::Subrange(*place, copy_expr(alloc, low)?, copy_expr(alloc, high)?))
+            let (low, high) = pair(copy_expr(alloc, low)?, copy_expr(alloc, high))?;
+            Ok(TypeTree::Subrange(*place, low, high))
         }
-        TypeTree::Array(place, index, others, element) => Ok(TypeTree::Array(
-            *place,
-            Boxed::new(alloc, copy_type(alloc, index.get())?)?,
-            copy_type_list(alloc, others)?,
-            Boxed::new(alloc, copy_type(alloc, element.get())?)?,
-        )),
-        TypeTree::Record(place, first, others) => Ok(TypeTree::Record(
-            *place,
-            copy_fields(alloc, first)?,
-            copy_fields_list(alloc, others)?,
-        )),
+        TypeTree::Array(place, index, others, element) => {
+            let ((index, others), element) = pair(
+                pair(
+                    copy_boxed_type(alloc, index)?,
+                    copy_type_list(alloc, others),
+                )?,
+                copy_boxed_type(alloc, element),
+            )?;
+            Ok(TypeTree::Array(*place, index, others, element))
+        }
+        TypeTree::Record(place, first, others) => {
+            let (first, others) = pair(
+                copy_fields(alloc, first)?,
+                copy_fields_list(alloc, others),
+            )?;
+            Ok(TypeTree::Record(*place, first, others))
+        }
         TypeTree::Relation(place, keys, q) => {
-            Ok(TypeTree::Relation(*place, copy_idents(alloc, keys)?, copy_qual(alloc, q)?))
+            let (keys, q) = pair(copy_idents(alloc, keys)?, copy_qual(alloc, q))?;
+            Ok(TypeTree::Relation(*place, keys, q))
         }
     }
+}
+
+#[cycle(copy_types)]
+fn copy_boxed_type(alloc: Global, t: &Boxed<TypeTree>) -> Result<Boxed<TypeTree>, Memory>
+    ensures { IfOk result (λ copied. copied ≡ t.now) }
+{
+    Boxed::new(alloc, copy_type(alloc, t.get())?)
 }
 
 #[cycle(copy_types)]
@@ -55,10 +71,8 @@ fn copy_fields(alloc: Global, fields: &Fields) -> Result<Fields, Memory>
     match fields {
         Fields::Empty(place) => Ok(Fields::Empty(*place)),
         Fields::Fields(names, t) => {
-            Ok(Fields::Fields(
-                copy_idents(alloc, names)?,
-                Boxed::new(alloc, copy_type(alloc, t.get())?)?,
-            ))
+            let (names, t) = pair(copy_idents(alloc, names)?, copy_boxed_type(alloc, t))?;
+            Ok(Fields::Fields(names, t))
         }
     }
 }

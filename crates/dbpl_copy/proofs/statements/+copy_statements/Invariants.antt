@@ -2,37 +2,46 @@ use Rattle.std.proofs.Common.{◌≡◌, ◌*◌, ◌+◌, take}
 use Rattle.dbpl_copy.proofs.statements.+copy_statements.Given as goal
 
 abbrev pub decreases-copy_statement : goal.decreases-copy_statement
-decreases-copy_statement l = 4 * goal.size-copy_statement l
+decreases-copy_statement l = 8 * goal.size-copy_statement l
+
+abbrev pub decreases-copy_boxed_statement : goal.decreases-copy_boxed_statement
+decreases-copy_boxed_statement l = 8 * goal.size-copy_boxed_statement l + 1
+
+abbrev pub decreases-copy_list : goal.decreases-copy_list
+decreases-copy_list l = 8 * goal.size-copy_list l + 1
 
 abbrev pub decreases-copy_body : goal.decreases-copy_body
-decreases-copy_body l = 4 * goal.size-copy_body l + 1
+decreases-copy_body l = 8 * goal.size-copy_body l + 2
 
 abbrev pub decreases-copy_optional_body : goal.decreases-copy_optional_body
-decreases-copy_optional_body l = 4 * goal.size-copy_optional_body l + 2
+decreases-copy_optional_body l = 8 * goal.size-copy_optional_body l + 3
+
+abbrev pub decreases-copy_elsif : goal.decreases-copy_elsif
+decreases-copy_elsif l = 8 * goal.size-copy_elsif l + 3
 
 abbrev pub decreases-copy_elsifs : goal.decreases-copy_elsifs
-decreases-copy_elsifs l = 4 * goal.size-copy_elsifs l + 2
+decreases-copy_elsifs l = 8 * goal.size-copy_elsifs l + 4
 
 abbrev pub decreases-copy_case : goal.decreases-copy_case
-decreases-copy_case l = 4 * goal.size-copy_case l + 2
+decreases-copy_case l = 8 * goal.size-copy_case l + 3
 
 abbrev pub decreases-copy_cases : goal.decreases-copy_cases
-decreases-copy_cases l = 4 * goal.size-copy_cases l + 3
+decreases-copy_cases l = 8 * goal.size-copy_cases l + 4
 
 abbrev pub decreases-copy_while : goal.decreases-copy_while
-decreases-copy_while l = 4 * goal.size-copy_while l + 2
+decreases-copy_while l = 8 * goal.size-copy_while l + 3
 
 abbrev pub decreases-copy_repeat : goal.decreases-copy_repeat
-decreases-copy_repeat l = 4 * goal.size-copy_repeat l + 2
+decreases-copy_repeat l = 8 * goal.size-copy_repeat l + 3
 
 abbrev pub decreases-copy_for : goal.decreases-copy_for
-decreases-copy_for l = 4 * goal.size-copy_for l + 2
+decreases-copy_for l = 8 * goal.size-copy_for l + 3
 
 abbrev pub decreases-copy_for_each : goal.decreases-copy_for_each
-decreases-copy_for_each l = 4 * goal.size-copy_for_each l + 2
+decreases-copy_for_each l = 8 * goal.size-copy_for_each l + 3
 
-abbrev pub invariant-copy_body-loop-s : goal.invariant-copy_body-loop-s
-invariant-copy_body-loop-s l = l.others ≡ take l.s-index l.body.others
+abbrev pub invariant-copy_list-loop-s : goal.invariant-copy_list-loop-s
+invariant-copy_list-loop-s l = l.copied ≡ take l.s-index l.others
 
 abbrev pub invariant-copy_elsifs-loop-elsif : goal.invariant-copy_elsifs-loop-elsif
 invariant-copy_elsifs-loop-elsif l = l.copied ≡ take l.elsif-index l.elsifs
