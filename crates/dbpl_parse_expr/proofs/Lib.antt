@@ -1,4 +1,0 @@
-pub mod Answered
-pub mod Depth
-pub mod Loops
-pub mod Pairs

@@ -1,4 +1,0 @@
-pub mod Calls
-pub mod Gives
-pub mod Made
-pub mod Nests

@@ -1,0 +1,17 @@
+pub mod Ends
+pub mod FixedWords
+pub mod Front
+pub mod Leads
+pub mod ModuleLaw
+pub mod NameLaw
+pub mod OneLexeme
+pub mod PlaceLaw
+pub mod Runs
+pub mod Signs
+pub mod Spellings
+pub mod StatementLaw
+pub mod Strings
+pub mod Tables
+pub mod Takes
+pub mod Words
+pub mod UnitLaw
