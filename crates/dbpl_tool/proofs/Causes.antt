@@ -9,7 +9,7 @@ use Rattle.dbpl_tool.specs.Answers.{Caused, IsNotRead, IsTheModule, Reads, Run, 
 use Rattle.dbpl_tool.specs.Asked.{Asks}
 use Rattle.dbpl_tool.specs.Meaning.{printed_by}
 use Rattle.dbpl_tool.specs.Sources.{IsUnread}
-use Rattle.dbpl_reader.specs.declared.program.Program.{Program}
+use Rattle.dbpl_front.specs.declared.program.Program.{Program}
 use Rattle.dbpl_world.specs.Counts.{Rose}
 use Rattle.dbpl_world.specs.History.{Event, History, Noted, Said, more}
 
@@ -39,7 +39,7 @@ unread run file _ asked cause silent = absurd cause
 
 pub not_read : (run : Run) (file text : List ℕ) (status : Status) → Reads run file text → IsNotRead text status → Silent run IsNothing →
     Caused run IsNothing status
-not_read run file text (Refused place rule) reads cause silent = (file, text, reads, cause.0, cause.1, cause.2, silent)
+not_read run file text (Refused place rule) reads cause silent = (file, text, reads, cause, silent)
 not_read run file text Memory reads cause silent = silent
 not_read run file text _ reads cause silent = absurd cause
 

@@ -6,8 +6,8 @@ use Rattle.std.specs.List.{flat_map}
 use Rattle.dbpl_tool.specs.Events.{Event, Out, prints}
 use Rattle.dbpl_tool.specs.Headline.{PrintsAll, PrintsPrefix}
 use Rattle.dbpl_tool.specs.Meaning.{◌>>=◌, Done, Ended, Outcome, block, gives, meaning, out, outcome_of, printed_by, statement_meaning, turn}
-use Rattle.dbpl_reader.specs.declared.program.Program.{Program}
-use Rattle.dbpl_reader.specs.declared.statement.Statement.{Statement}
+use Rattle.dbpl_front.specs.declared.program.Program.{Program}
+use Rattle.dbpl_front.specs.declared.statement.Statement.{Statement}
 
 -- the events of these bytes
 abbrev outs : List ℕ → List Event

@@ -5,7 +5,7 @@ use Rattle.std.proofs.lemmas.List.{append-nil}
 use Rattle.dbpl_tool.specs.Events.{Event, Out, prints}
 use Rattle.dbpl_tool.specs.Headline.{NotedSince, PrintsAll, PrintsPrefix, SaidSince}
 use Rattle.dbpl_tool.specs.Meaning.{meaning}
-use Rattle.dbpl_reader.specs.declared.program.Program.{Program}
+use Rattle.dbpl_front.specs.declared.program.Program.{Program}
 use Rattle.dbpl_world.specs.History as world
 use Rattle.dbpl_world.specs.History.{History, Noted, Said, State, more, now, replay, step}
 use Rattle.dbpl_world.specs.Moments.{Always, EachMoment}

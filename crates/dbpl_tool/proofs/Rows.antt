@@ -1,7 +1,6 @@
 -- From the causes by cases to the rows of the contract, each a fact of its own.
 use Rattle.std.proofs.Common.{◌≡◌, ◌∙◌, ℕ, ◌<◌, ◌≤◌, List, [], ◌++◌, IfErr, IfSome, OnErr, OnOk, IsSomeAnd, IsTrue, None, Ok, Err, Option, Result, Some, ap, arith, inl, inr, length, map, refl, subst, sym, take}
 use Rattle.std.proofs.lemmas.List.{append-nil}
-use Rattle.dbpl_base.specs.Places.{start_of}
 use Rattle.dbpl_base.specs.Report.{report}
 use Rattle.dbpl_base.specs.declared.place.Place.{Place}
 use Rattle.dbpl_base.specs.declared.limits.TheConstants.{SOURCE_BYTES}
@@ -9,13 +8,14 @@ use Rattle.dbpl_base.specs.declared.status.Status.{Status}
 use Rattle.dbpl_base.specs.declared.status.Status.TheVariants.{Absent, BadWords, Done, Memory, OutFault, Refused, SourceFault, TooLong}
 use Rattle.dbpl_tool.proofs.Appending.{more-more}
 use Rattle.dbpl_tool.proofs.Causes.{IsNothing}
-use Rattle.dbpl_tool.specs.Answers.{Caused, IsNoModule, IsOrMemory, IsSilent, IsTheModule, IsUnlessUnread, Reads, Reports, Run, Says, Silent}
+use Rattle.dbpl_tool.specs.Answers.{Caused, IsOrMemory, IsRefusalUnlessUnread, IsSilent, IsTheModule, IsUnlessUnread, Reads, Reports, Run, Says, Silent}
 use Rattle.dbpl_tool.proofs.Moments.{all_prefix, nothing_prefix}
 use Rattle.dbpl_tool.specs.Asked.{Asks}
 use Rattle.dbpl_tool.specs.Headline.{PrintsAll, PrintsPrefix}
 use Rattle.dbpl_tool.specs.Sources.{IsAbsent, IsTooLong}
-use Rattle.dbpl_reader.specs.Program.{SpellsProgram}
-use Rattle.dbpl_reader.specs.declared.program.Program.{Program}
+use Rattle.dbpl_front.proofs.TextLaw.{module_or_refusal}
+use Rattle.dbpl_front.specs.Texts.{IsModule, IsNoModule, IsRefused}
+use Rattle.dbpl_front.specs.declared.program.Program.{Program}
 use Rattle.dbpl_world.specs.Counts.{OnlyNoteFaults, OnlySayFaults, Rose}
 use Rattle.dbpl_world.specs.declared.counts.Counts.{Counts}
 use Rattle.dbpl_world.specs.Files.{Files, file_of}
@@ -95,7 +95,7 @@ caused_reported run after counts Done notes cause =
     (cause.0, cause.1, cause.2, reads_on cause.3, cause.4, says_reported run after counts Done _ notes cause.5)
 caused_reported run after counts BadWords notes cause = (cause.0, says_reported run after counts BadWords _ notes cause.1)
 caused_reported run after counts (Refused place rule) notes cause =
-    (cause.0, cause.1, reads_on cause.2, cause.3, cause.4, cause.5, says_reported run after counts (Refused place rule) _ notes cause.6)
+    (cause.0, cause.1, reads_on cause.2, cause.3, says_reported run after counts (Refused place rule) _ notes cause.4)
 caused_reported run after counts (Absent name) notes cause =
     (cause.0, cause.1, says_reported run after counts (Absent name) _ notes cause.2)
 caused_reported run after counts SourceFault notes cause =
@@ -143,13 +143,14 @@ same_text run file text read other asked told reads =
 -- where the text of the file is a module's and no fault comes, the answer is Done
 pub complete : (run : Run) (N : List ℕ → Type 0) (status : Status) (file text : List ℕ) (program : Program) → Caused run N status →
     Asks run.words file → IsSomeAnd run.files (λ files. file_of files file ≡ Some text) → length text ≤ SOURCE_BYTES →
-    SpellsProgram 0 text program → (Rose run.shelf_faults_before run.shelf_faults_after → ⊥) →
+    IsModule text program → (Rose run.shelf_faults_before run.shelf_faults_after → ⊥) →
     (Rose run.counts_before.say_faults run.counts_after.say_faults → ⊥) → IsOrMemory status Done
 complete run N Done file text program cause asked told within spelt read said = inl refl
 complete run N BadWords file text program cause asked told within spelt read said = absurd (cause.0 file asked)
 complete run N (Refused place rule) file text program cause asked told within spelt read said =
     let same = same_text run file text cause.0 cause.1 asked told cause.2 in
-    absurd (cause.5 program (subst (λ (t : List ℕ). SpellsProgram 0 t program) (sym same) spelt))
+    let here = subst (λ (t : List ℕ). IsModule t program) (sym same) spelt in
+    absurd (module_or_refusal cause.1 program place rule here cause.3)
 complete run N (Absent name) file text program cause asked told within spelt read said =
     absurd (not_absent run.files run.words file name text asked cause.0 told cause.1)
 complete run N SourceFault file text program cause asked told within spelt read said = absurd (read cause.2)
@@ -158,31 +159,75 @@ complete run N Memory file text program cause asked told within spelt read said 
 complete run N (TooLong name) file text program cause asked told within spelt read said =
     absurd (not_too_long run.files run.words file name text asked cause.0 told within cause.1)
 
--- where the text of the file is no module's, it is refused
-pub refused : (run : Run) (N : List ℕ → Type 0) (status : Status) (file text : List ℕ) → Caused run N status →
+-- where the text of the file is no module's, it is refused, and what its refusals tell holds
+pub refused : (run : Run) (N : List ℕ → Type 0) (status : Status) (file text : List ℕ) (P : Place → ℕ → Type 0) → Caused run N status →
     Asks run.words file → IsSomeAnd run.files (λ files. file_of files file ≡ Some text) → length text ≤ SOURCE_BYTES →
-    IsNoModule text → IsUnlessUnread status (Refused (start_of 0) 109)
-refused run N Done file text cause asked told within none =
+    IsNoModule text → ((place : Place) (rule : ℕ) → IsRefused text place rule → P place rule) → IsRefusalUnlessUnread status P
+refused run N Done file text P cause asked told within none tells =
     let same = same_text run file text cause.0 cause.1 asked told cause.3 in
-    absurd (none cause.2 (subst (λ (t : List ℕ). SpellsProgram 0 t cause.2) same cause.4.spelt))
-refused run N BadWords file text cause asked told within none = absurd (cause.0 file asked)
-refused run N (Refused place rule) file text cause asked told within none =
-    inl (ap (λ (p : Place). Refused p rule) cause.3 ∙ ap (Refused (start_of 0)) cause.4)
-refused run N (Absent name) file text cause asked told within none =
+    absurd (none cause.2 (subst (λ (t : List ℕ). IsModule t cause.2) same cause.4.spelt))
+refused run N BadWords file text P cause asked told within none tells = absurd (cause.0 file asked)
+refused run N (Refused place rule) file text P cause asked told within none tells =
+    let same = same_text run file text cause.0 cause.1 asked told cause.2 in
+    inl (place, rule, refl, tells place rule (subst (λ (t : List ℕ). IsRefused t place rule) same cause.3))
+refused run N (Absent name) file text P cause asked told within none tells =
     absurd (not_absent run.files run.words file name text asked cause.0 told cause.1)
-refused run N SourceFault file text cause asked told within none = inr (inl refl)
-refused run N OutFault file text cause asked told within none =
+refused run N SourceFault file text P cause asked told within none tells = inr (inl refl)
+refused run N OutFault file text P cause asked told within none tells =
     let same = same_text run file text cause.0 cause.1 asked told cause.3 in
-    absurd (none cause.2 (subst (λ (t : List ℕ). SpellsProgram 0 t cause.2) same cause.4.spelt))
-refused run N Memory file text cause asked told within none = inr (inr refl)
-refused run N (TooLong name) file text cause asked told within none =
+    absurd (none cause.2 (subst (λ (t : List ℕ). IsModule t cause.2) same cause.4.spelt))
+refused run N Memory file text P cause asked told within none tells = inr (inr refl)
+refused run N (TooLong name) file text P cause asked told within none tells =
     absurd (not_too_long run.files run.words file name text asked cause.0 told within cause.1)
+
+-- a refusal of which the place and the rule are known is the one that is due
+pub due : (status : Status) (place : Place) (rule : ℕ) → IsRefusalUnlessUnread status (λ there number. (there ≡ place) × (number ≡ rule)) →
+    IsUnlessUnread status (Refused place rule)
+due status place rule (inl found) =
+    inl (found.2 ∙ ap (λ (p : Place). Refused p found.1) found.3.0 ∙ ap (Refused place) found.3.1)
+due status place rule (inr fault) = inr fault
+
+-- where the answer is a refusal, the text of the file has it
+pub refused_only : (run : Run) (N : List ℕ → Type 0) (status : Status) (place : Place) (rule : ℕ) → Caused run N status → status ≡ Refused place rule →
+    (file : List ℕ) × Asks run.words file × IfSome run.files (λ files. (text : List ℕ) × (file_of files file ≡ Some text) × IsRefused text place rule)
+refused_only run N status place rule cause is =
+    let here = subst (λ (s : Status). Caused run N s) is cause in
+    (here.0, here.2.asked, told_refusal run.files here.0 here.1 here.2.found here.3)
+  where
+    told_refusal : (files : Option Files) (file text : List ℕ) → IfSome files (λ files. file_of files file ≡ Some text) → IsRefused text place rule →
+        IfSome files (λ files. (text : List ℕ) × (file_of files file ≡ Some text) × IsRefused text place rule)
+    told_refusal None file text found refusal = tt
+    told_refusal (Some files) file text found refusal = (text, found, refusal)
+
+-- where the answer is Done, the text of the file is a module
+pub done_only : (run : Run) (N : List ℕ → Type 0) (status : Status) → Caused run N status → status ≡ Done →
+    (file : List ℕ) × Asks run.words file × IfSome run.files (λ files. (text : List ℕ) × (program : Program) × (file_of files file ≡ Some text) × IsModule text program)
+done_only run N status cause is =
+    let here = subst (λ (s : Status). Caused run N s) is cause in
+    (here.0, here.3.asked, told_module run.files here.0 here.1 here.2 here.3.found here.4.spelt)
+  where
+    told_module : (files : Option Files) (file text : List ℕ) (program : Program) → IfSome files (λ files. file_of files file ≡ Some text) → IsModule text program →
+        IfSome files (λ files. (text : List ℕ) × (program : Program) × (file_of files file ≡ Some text) × IsModule text program)
+    told_module None file text program found m = tt
+    told_module (Some files) file text program found m = (text, program, found, m)
+
+-- where the words ask for nothing, they are refused
+pub bad_words : (run : Run) (N : List ℕ → Type 0) (status : Status) → Caused run N status → ((file : List ℕ) → Asks run.words file → ⊥) →
+    IsOrMemory status BadWords
+bad_words run N Done cause none = absurd (none cause.0 cause.3.asked)
+bad_words run N BadWords cause none = inl refl
+bad_words run N (Refused place rule) cause none = absurd (none cause.0 cause.2.asked)
+bad_words run N (Absent name) cause none = absurd (none name cause.0)
+bad_words run N SourceFault cause none = absurd (none cause.0 cause.1)
+bad_words run N OutFault cause none = absurd (none cause.0 cause.3.asked)
+bad_words run N Memory cause none = inr refl
+bad_words run N (TooLong name) cause none = absurd (none name cause.0)
 
 -- where the answer is no print's, nothing was said
 pub silent : (run : Run) (N : List ℕ → Type 0) (status : Status) → Caused run N status → IsSilent status → Silent run N
 silent run N Done cause quiet = absurd quiet
 silent run N BadWords cause quiet = cause.1
-silent run N (Refused place rule) cause quiet = cause.6
+silent run N (Refused place rule) cause quiet = cause.4
 silent run N (Absent name) cause quiet = cause.2
 silent run N SourceFault cause quiet = cause.3
 silent run N OutFault cause quiet = absurd quiet
@@ -193,7 +238,7 @@ silent run N (TooLong name) cause quiet = cause.2
 pub says_something : (run : Run) (N : List ℕ → Type 0) (status : Status) → Caused run N status → Says run (λ said. Unit {0}) N
 says_something run N Done cause told = let says = cause.5 told in (says.0, says.1, tt, says.3, says.4)
 says_something run N BadWords cause told = let says = cause.1 told in (says.0, says.1, tt, says.3, says.4)
-says_something run N (Refused place rule) cause told = let says = cause.6 told in (says.0, says.1, tt, says.3, says.4)
+says_something run N (Refused place rule) cause told = let says = cause.4 told in (says.0, says.1, tt, says.3, says.4)
 says_something run N (Absent name) cause told = let says = cause.2 told in (says.0, says.1, tt, says.3, says.4)
 says_something run N SourceFault cause told = let says = cause.3 told in (says.0, says.1, tt, says.3, says.4)
 says_something run N OutFault cause told = let says = cause.6 told in (says.0, says.1, tt, says.3, says.4)
@@ -202,11 +247,11 @@ says_something run N (TooLong name) cause told = let says = cause.2 told in (say
 
 -- the module that ran is the one whose text the file has
 same_module : (run : Run) (file text read other : List ℕ) (program ran : Program) → Asks run.words file →
-    IsSomeAnd run.files (λ files. file_of files file ≡ Some text) → SpellsProgram 0 text program → Reads run read other →
+    IsSomeAnd run.files (λ files. file_of files file ≡ Some text) → IsModule text program → Reads run read other →
     IsTheModule other ran → ran ≡ program
 same_module run file text read other program ran asked told spelt reads the =
     let same = same_text run file text read other asked told reads in
-    sym (the.only program (subst (λ (t : List ℕ). SpellsProgram 0 t program) (sym same) spelt))
+    sym (the.only program (subst (λ (t : List ℕ). IsModule t program) (sym same) spelt))
 
 -- nothing that was said is what no events print
 nothing_said : (run : Run) (N : List ℕ → Type 0) (program : Program) → Silent run N → Says run (PrintsPrefix program) N
@@ -215,7 +260,7 @@ nothing_said run N program quiet tells =
 
 -- what was said is what a prefix of the module's events prints
 pub says_prefix : (run : Run) (N : List ℕ → Type 0) (status : Status) (file text : List ℕ) (program : Program) → Caused run N status →
-    Asks run.words file → IsSomeAnd run.files (λ files. file_of files file ≡ Some text) → SpellsProgram 0 text program →
+    Asks run.words file → IsSomeAnd run.files (λ files. file_of files file ≡ Some text) → IsModule text program →
     Says run (PrintsPrefix program) N
 says_prefix run N Done file text program cause asked told spelt tells =
     let says = cause.5 tells in
@@ -226,7 +271,7 @@ says_prefix run N OutFault file text program cause asked told spelt tells =
     let same = same_module run file text cause.0 cause.1 program cause.2 asked told spelt cause.3 cause.4 in
     (says.0, says.1, subst (λ (p : Program). PrintsPrefix p says.0) same says.2, says.3, says.4)
 says_prefix run N BadWords file text program cause asked told spelt tells = nothing_said run N program cause.1 tells
-says_prefix run N (Refused place rule) file text program cause asked told spelt tells = nothing_said run N program cause.6 tells
+says_prefix run N (Refused place rule) file text program cause asked told spelt tells = nothing_said run N program cause.4 tells
 says_prefix run N (Absent name) file text program cause asked told spelt tells = nothing_said run N program cause.2 tells
 says_prefix run N SourceFault file text program cause asked told spelt tells = nothing_said run N program cause.3 tells
 says_prefix run N Memory file text program cause asked told spelt tells = nothing_said run N program cause tells
@@ -234,7 +279,7 @@ says_prefix run N (TooLong name) file text program cause asked told spelt tells 
 
 -- a command that is done has said what all events of the module print
 pub says_all : (run : Run) (N : List ℕ → Type 0) (status : Status) (file text : List ℕ) (program : Program) → Caused run N status →
-    Asks run.words file → IsSomeAnd run.files (λ files. file_of files file ≡ Some text) → SpellsProgram 0 text program → status ≡ Done →
+    Asks run.words file → IsSomeAnd run.files (λ files. file_of files file ≡ Some text) → IsModule text program → status ≡ Done →
     Says run (PrintsAll program) N
 says_all run N status file text program cause asked told spelt done tells =
     let here = subst (λ (s : Status). Caused run N s) done cause in

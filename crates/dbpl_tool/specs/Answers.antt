@@ -1,15 +1,15 @@
 -- Why each answer of the command comes, and what it leaves.
 use Rattle.std.specs.Prelude.{◌≡◌, ℕ, ◌≤◌, ◌⊎◌, List, [], ◌++◌, length, map, take, Bool, IsTrue, Option, Some, IfSome}
-use Rattle.dbpl_base.specs.Places.{start_of}
 use Rattle.dbpl_base.specs.Report.{report}
+use Rattle.dbpl_base.specs.declared.place.Place.{Place}
 use Rattle.dbpl_base.specs.declared.status.Status.{Status}
 use Rattle.dbpl_base.specs.declared.status.Status.TheVariants as status
 use Rattle.dbpl_base.specs.declared.limits.TheConstants.{SOURCE_BYTES}
 use Rattle.dbpl_tool.specs.Asked.{Asks}
 use Rattle.dbpl_tool.specs.Headline.{PrintsAll, PrintsPrefix}
 use Rattle.dbpl_tool.specs.Sources.{IsAbsent, IsTooLong}
-use Rattle.dbpl_reader.specs.Program.{SpellsProgram}
-use Rattle.dbpl_reader.specs.declared.program.Program.{Program}
+use Rattle.dbpl_front.specs.Texts.{IsModule, IsRefused}
+use Rattle.dbpl_front.specs.declared.program.Program.{Program}
 use Rattle.dbpl_world.specs.Counts.{Rose}
 use Rattle.dbpl_world.specs.declared.counts.Counts.{Counts}
 use Rattle.dbpl_world.specs.Files.{Files, file_of}
@@ -35,12 +35,8 @@ pub record Reads (run : Run) (file text : List ℕ) : Type 0 where
 
 -- the module of this text, and the only one
 pub record IsTheModule (text : List ℕ) (program : Program) : Type 0 where
-  pub spelt : SpellsProgram 0 text program
-  pub only : (other : Program) → SpellsProgram 0 text other → other ≡ program
-
--- no module of the form that is built so far has this text
-abbrev pub IsNoModule : List ℕ → Type 0
-IsNoModule text = (program : Program) → SpellsProgram 0 text program → ⊥
+  pub spelt : IsModule text program
+  pub only : (other : Program) → IsModule text other → other ≡ program
 
 -- Where the world tells, it said bytes of which P holds, then noted bytes of which N holds, and did nothing else.
 abbrev pub Says : Run → (List ℕ → Type 0) → (List ℕ → Type 0) → Type 0
@@ -54,7 +50,7 @@ Silent run N = Says run (λ said. said ≡ []) N
 
 -- why a text was not read, by cases on the answer; no other answer comes
 abbrev pub IsNotRead : List ℕ → Status → Type 0
-IsNotRead text (status.Refused place rule) = (place ≡ start_of 0) × (rule ≡ 109) × IsNoModule text
+IsNotRead text (status.Refused place rule) = IsRefused text place rule
 IsNotRead text status.Memory = Unit {0}
 IsNotRead text _ = ⊥
 
@@ -66,7 +62,7 @@ Caused run N status.Done =
     × Says run (PrintsAll program) N
 Caused run N status.BadWords = ((file : List ℕ) → Asks run.words file → ⊥) × Silent run N
 Caused run N (status.Refused place rule) =
-    (file text : List ℕ) × Reads run file text × (place ≡ start_of 0) × (rule ≡ 109) × IsNoModule text × Silent run N
+    (file text : List ℕ) × Reads run file text × IsRefused text place rule × Silent run N
 Caused run N (status.Absent name) = Asks run.words name × IsAbsent run.files name × Silent run N
 Caused run N status.SourceFault =
     (file : List ℕ) × Asks run.words file × Rose run.shelf_faults_before run.shelf_faults_after × Silent run N
@@ -89,6 +85,12 @@ IsOrMemory answer due = (answer ≡ due) ⊎ (answer ≡ status.Memory)
 -- the answer is the one that is due, or a fault of the shelf or want of memory came first
 abbrev pub IsUnlessUnread : Status → Status → Type 0
 IsUnlessUnread answer due = (answer ≡ due) ⊎ ((answer ≡ status.SourceFault) ⊎ (answer ≡ status.Memory))
+
+-- the answer is a refusal at a place by a rule of which this holds, or a fault of the shelf or want of memory came first
+abbrev pub IsRefusalUnlessUnread : Status → (Place → ℕ → Type 0) → Type 0
+IsRefusalUnlessUnread answer P =
+    ((place : Place) × (rule : ℕ) × (answer ≡ status.Refused place rule) × P place rule)
+    ⊎ ((answer ≡ status.SourceFault) ⊎ (answer ≡ status.Memory))
 
 -- the answers of commands that print nothing
 abbrev pub IsSilent : Status → Type 0

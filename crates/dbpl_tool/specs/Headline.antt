@@ -2,7 +2,7 @@
 use Rattle.std.specs.Prelude.{◌≡◌, ◌≤◌, ℕ, List, ◌++◌, take}
 use Rattle.dbpl_tool.specs.Events.{prints}
 use Rattle.dbpl_tool.specs.Meaning.{meaning, Ended}
-use Rattle.dbpl_reader.specs.declared.program.Program.{Program}
+use Rattle.dbpl_front.specs.declared.program.Program.{Program}
 use Rattle.dbpl_world.specs.declared.counts.Counts.{Counts}
 use Rattle.dbpl_world.specs.History.{State}
 

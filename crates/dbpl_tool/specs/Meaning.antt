@@ -3,9 +3,9 @@
 use Rattle.std.specs.Prelude.{ℕ, zero, suc, ◌==◌, List, [], ◌∷◌, ◌++◌, map}
 use Rattle.std.specs.List.{before_first}
 use Rattle.dbpl_tool.specs.Events.{Event, Out}
-use Rattle.dbpl_reader.specs.declared.program.Program.{Program}
-use Rattle.dbpl_reader.specs.declared.statement.Statement.{Statement}
-use Rattle.dbpl_reader.specs.declared.statement.Statement.TheVariants.{WriteLn, WriteString}
+use Rattle.dbpl_front.specs.declared.program.Program.{Program}
+use Rattle.dbpl_front.specs.declared.statement.Statement.{Statement}
+use Rattle.dbpl_front.specs.declared.statement.Statement.TheVariants.{WriteLn, WriteString}
 
 -- How a run stands. It is going on where its turns were used up.
 pub data Standing : Type 0 where

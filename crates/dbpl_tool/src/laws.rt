@@ -2,7 +2,7 @@
 ghost use Rattle.std.specs.Prelude.{◌≡◌, ◌+◌, ◌++◌, ℕ, List};
 ghost use Rattle.dbpl_tool.specs.Events.{Event};
 ghost use Rattle.dbpl_tool.specs.Meaning.{Ended, meaning};
-ghost use Rattle.dbpl_reader.specs.declared.program.Program.{Program};
+ghost use Rattle.dbpl_front.specs.declared.program.Program.{Program};
 
 /// More turns only add events, and a module that has ended stays as it is.
 pub fn meaning_is_steady()

@@ -5,7 +5,7 @@ ghost use Rattle.dbpl_tool.specs.Meaning.{printed_by};
 ghost use Rattle.dbpl_world.specs.Counts.{OnlySayFaults, Rose};
 ghost use Rattle.dbpl_world.specs.History.{Said, more};
 
-use dbpl_reader::{Program, Statement};
+use dbpl_front::{Program, Statement};
 use dbpl_world::{Failed, World, say_all};
 
 /// Says all that the module prints.

@@ -4,13 +4,10 @@ ghost use Rattle.dbpl_tool.specs.Answers.{IsNotRead, IsTheModule};
 ghost use Rattle.dbpl_tool.specs.Sources.{IsUnread};
 ghost use Rattle.dbpl_world.specs.Files.{file_of};
 
-use dbpl_base::{Place, SOURCE_BYTES, Status, name_of};
-use dbpl_reader::{Program, ReadErr, read};
+use dbpl_base::{SOURCE_BYTES, Status, name_of};
+use dbpl_front::{FrontErr, Program, read};
 use dbpl_world::{Shelf, ShelfErr};
 use std::alloc::Global;
-
-/// The rule that refuses a text of a form that isn't built yet.
-const UNBUILT: u16 = 109;
 
 /// The text of that file.
 pub fn source<S: Shelf>(alloc: Global, shelf: &mut S, file: &str) -> Result<Vec<u8>, Status>
@@ -32,19 +29,16 @@ pub fn source<S: Shelf>(alloc: Global, shelf: &mut S, file: &str) -> Result<Vec<
 
 /// The module that the text spells.
 pub fn module(alloc: Global, text: &[u8]) -> Result<Program, Status>
+    requires { length text.now ≤ SOURCE_BYTES }
     ensures found { IfOk result (λ program. IsTheModule text.now program) }
     ensures err { IfErr result (λ status. IsNotRead text.now status) }
 {
     match read(alloc, text) {
         Ok(program) => Ok(program),
-        Err(ReadErr::NotSmall) => Err(Status::Refused {
-            place: Place {
-                unit: 0,
-                line: 1,
-                col: 1,
-            },
-            rule: UNBUILT,
+        Err(FrontErr::Refused(refusal)) => Err(Status::Refused {
+            place: refusal.place,
+            rule: refusal.rule,
         }),
-        Err(ReadErr::Memory) => Err(Status::Memory),
+        Err(FrontErr::Memory) => Err(Status::Memory),
     }
 }

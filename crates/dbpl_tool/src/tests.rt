@@ -28,7 +28,7 @@ const HELLO: &[u8] =
 
 const BOTH_LINES: &[u8] = b"Hello\nit \"works\"\n";
 
-const REFUSED: &[u8] = b"refused L9 at 0:1:1\n";
+const ANOTHER_FORM: &[u8] = b"refused L9 at 0:1:1\n";
 
 const USAGE: &[u8] = b"usage: dbpl MODE WORDS [--steps N]\n";
 
@@ -83,7 +83,27 @@ const ROWS: &[Row] = &[
         said: b"",
         noted: b"",
     },
-    // Texts of another form.
+    // Comments stand between tokens.
+    Row {
+        words: RUN,
+        text: b"MODULE M; (* (* *) *) FROM InOut IMPORT WriteString, WriteLn; BEGIN (**) WriteLn END M.",
+        fails: &[],
+        fetches_fail: &[],
+        code: 0,
+        said: b"\n",
+        noted: b"",
+    },
+    // A comment that doesn't close.
+    Row {
+        words: RUN,
+        text: b"MODULE M; (* a (* b (* c *) *)",
+        fails: &[],
+        fetches_fail: &[],
+        code: 3,
+        said: b"",
+        noted: b"refused L1 at 0:1:11\n",
+    },
+    // No tokens but the end, and one too many.
     Row {
         words: RUN,
         text: b"",
@@ -91,16 +111,7 @@ const ROWS: &[Row] = &[
         fetches_fail: &[],
         code: 3,
         said: b"",
-        noted: REFUSED,
-    },
-    Row {
-        words: RUN,
-        text: b"MODULE M; FROM InOut IMPORT WriteString, WriteLn; BEGIN WriteLn END N.",
-        fails: &[],
-        fetches_fail: &[],
-        code: 3,
-        said: b"",
-        noted: REFUSED,
+        noted: b"refused L2 at 0:1:1\n",
     },
     Row {
         words: RUN,
@@ -109,7 +120,36 @@ const ROWS: &[Row] = &[
         fetches_fail: &[],
         code: 3,
         said: b"",
-        noted: REFUSED,
+        noted: b"refused L2 at 0:1:72\n",
+    },
+    // A phrase too many inside others.
+    Row {
+        words: RUN,
+        text: b"MODULE M; BEGIN x := ((((((((((((((((((((((((((((((((((((((((((((((((((((((((((((((((",
+        fails: &[],
+        fetches_fail: &[],
+        code: 3,
+        said: b"",
+        noted: b"refused L3 at 0:1:85\n",
+    },
+    // Modules of another form.
+    Row {
+        words: RUN,
+        text: b"MODULE M; BEGIN END M.",
+        fails: &[],
+        fetches_fail: &[],
+        code: 3,
+        said: b"",
+        noted: ANOTHER_FORM,
+    },
+    Row {
+        words: RUN,
+        text: b"MODULE M; FROM InOut IMPORT WriteString, WriteLn; BEGIN WriteLn END N.",
+        fails: &[],
+        fetches_fail: &[],
+        code: 3,
+        said: b"",
+        noted: ANOTHER_FORM,
     },
     // A file that isn't there, and a shelf that fails.
     Row {

@@ -1,7 +1,10 @@
 -- The rows that don't follow from the causes by a search.
-use Rattle.std.proofs.Common.{ℕ, List}
+use Rattle.std.proofs.Common.{◌≡◌, ℕ, List}
+use Rattle.dbpl_base.specs.Places.{start_of}
+use Rattle.dbpl_front.proofs.TextLaw.{no_tokens_module, no_tokens_refusal, no_unit_module, no_unit_refusal, unbuilt_module, unbuilt_refusal}
+use Rattle.dbpl_front.specs.Texts.{IsRefused, IsRefusedByGrammar, IsUnscanned}
 use Rattle.dbpl_tool.proofs.Moments.{each_front, none_fronts, prefix_fronts, said_at_end, noted_at_end}
-use Rattle.dbpl_tool.proofs.Rows.{caused_reported, complete, refused, reported, says_all, says_prefix, says_something, silent}
+use Rattle.dbpl_tool.proofs.Rows.{bad_words, caused_reported, complete, done_only, due, refused, refused_only, reported, says_all, says_prefix, says_something, silent}
 use Rattle.dbpl_tool.specs.Answers.{Caused, Reports, Run}
 use Rattle.dbpl_tool.specs.Headline.{PrintsAll, PrintsPrefix}
 use Rattle.dbpl_tool.proofs.command.dbpl.Given as given
@@ -45,13 +48,39 @@ cause g c =
 pub returns-clause-answered : goal.returns-clause-answered
 returns-clause-answered g c = cause g c
 
+pub returns-clause-done_only : goal.returns-clause-done_only
+returns-clause-done_only g c = λ done. done_only (whole_run g c) (IsItsReport g c) c.run-status.result (cause g c) done
+
+pub returns-clause-bad_words : goal.returns-clause-bad_words
+returns-clause-bad_words g c = λ none. bad_words (whole_run g c) (IsItsReport g c) c.run-status.result (cause g c) none
+
+pub returns-clause-refused_only : goal.returns-clause-refused_only
+returns-clause-refused_only g c = λ place rule is.
+    refused_only (whole_run g c) (IsItsReport g c) c.run-status.result place rule (cause g c) is
+
 pub returns-clause-complete : goal.returns-clause-complete
 returns-clause-complete g c = λ file text program asked told within spelt read said.
     complete (whole_run g c) (IsItsReport g c) c.run-status.result file text program (cause g c) asked told within spelt read said
 
 pub returns-clause-refused : goal.returns-clause-refused
 returns-clause-refused g c = λ file text asked told within none.
-    refused (whole_run g c) (IsItsReport g c) c.run-status.result file text (cause g c) asked told within none
+    refused (whole_run g c) (IsItsReport g c) c.run-status.result file text (IsRefused text) (cause g c) asked told within none (λ place rule is. is)
+
+pub returns-clause-refused_text : goal.returns-clause-refused_text
+returns-clause-refused_text g c = λ file text asked told within none.
+    refused (whole_run g c) (IsItsReport g c) c.run-status.result file text (λ place rule. (rule ≡ 101) × IsUnscanned text place) (cause g c)
+    asked told within (no_tokens_module text none) (λ place rule is. no_tokens_refusal text place rule none is)
+
+pub returns-clause-refused_unit : goal.returns-clause-refused_unit
+returns-clause-refused_unit g c = λ file text asked told within none.
+    refused (whole_run g c) (IsItsReport g c) c.run-status.result file text (IsRefusedByGrammar text) (cause g c)
+    asked told within (no_unit_module text none) (λ place rule is. no_unit_refusal text place rule none is)
+
+pub returns-clause-refused_form : goal.returns-clause-refused_form
+returns-clause-refused_form g c = λ file text asked told within other.
+    due c.run-status.result (start_of 0) 109
+    (refused (whole_run g c) (IsItsReport g c) c.run-status.result file text (λ there number. (there ≡ start_of 0) × (number ≡ 109)) (cause g c)
+    asked told within (unbuilt_module text other) (λ place rule is. unbuilt_refusal text place rule other is))
 
 pub returns-clause-events : goal.returns-clause-events
 returns-clause-events g c = λ tells.

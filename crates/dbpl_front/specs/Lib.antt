@@ -1,0 +1,5 @@
+pub mod Errors
+pub mod Program
+pub mod Small
+pub mod Texts
+pub mod Units

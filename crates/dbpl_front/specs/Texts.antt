@@ -1,0 +1,82 @@
+-- Which texts are modules that can be run so far, and why another text is refused.
+use Rattle.std.specs.Prelude.{◌≡◌, ◌⊎◌, ℕ, List, Some, None, Err}
+use Rattle.dbpl_base.specs.Places.{start_of}
+use Rattle.dbpl_base.specs.declared.place.Place.{Place}
+use Rattle.dbpl_base.specs.declared.token.Token.{Token}
+use Rattle.dbpl_front.specs.Small.{small_of}
+use Rattle.dbpl_front.specs.declared.front_err.FrontErr.{FrontErr}
+use Rattle.dbpl_front.specs.declared.front_err.FrontErr.TheVariants as errors
+use Rattle.dbpl_front.specs.declared.program.Program.{Program}
+use Rattle.dbpl_grammar.specs.Laws.{IsText}
+use Rattle.dbpl_grammar.specs.Reading.{Refused}
+use Rattle.dbpl_grammar.specs.Units.{depth_limit, whole_unit}
+use Rattle.dbpl_parse_expr.specs.Calls.{error_of}
+use Rattle.dbpl_parse_expr.specs.declared.parse_err.ParseErr.{ParseErr}
+use Rattle.dbpl_parse_expr.specs.declared.parse_err.ParseErr.TheVariants as syntax
+use Rattle.dbpl_parse_unit.specs.Whole.{TextRefusedAt}
+use Rattle.dbpl_scan.specs.BreaksOff.{BreaksOffAt}
+use Rattle.dbpl_scan.specs.Comments.{Scans}
+use Rattle.dbpl_tree.specs.declared.unit.Unit.{Unit as Tree}
+
+-- THE texts that can be run: the text has tokens, they spell a unit, and that is this module.
+pub record IsModule (text : List ℕ) (program : Program) : Type 0 where
+  pub tokens : List Token
+  pub scanned : Scans 0 text tokens
+  pub unit : Tree
+  pub spelled : IsText tokens unit
+  pub small : small_of unit ≡ Some program
+
+-- no module that can be run so far has this text
+abbrev pub IsNoModule : List ℕ → Type 0
+IsNoModule text = (program : Program) → ¬ IsModule text program
+
+-- ---- refusals
+
+-- the text has no tokens
+abbrev pub HasNoTokens : List ℕ → Type 0
+HasNoTokens text = (tokens : List Token) → ¬ Scans 0 text tokens
+
+-- The text has no tokens, since here neither a blank nor a whole comment nor a token stands.
+pub record IsUnscanned (text : List ℕ) (place : Place) : Type 0 where
+  pub breaks : BreaksOffAt 0 text place
+  pub none : HasNoTokens text
+
+-- The text has tokens, but they spell no unit that isn't too deep.
+pub record HasNoUnit (text : List ℕ) : Type 0 where
+  pub tokens : List Token
+  pub scanned : Scans 0 text tokens
+  pub none : (unit : Tree) → ¬ IsText tokens unit
+
+-- The text has tokens, but they spell no unit that isn't too deep; this says where that shows, as the grammar reads them.
+pub record IsUnparsed (text : List ℕ) (error : ParseErr) : Type 0 where
+  pub tokens : List Token
+  pub scanned : Scans 0 text tokens
+  pub none : (unit : Tree) → ¬ IsText tokens unit
+  pub at : TextRefusedAt tokens error
+  pub refused : Refused
+  pub read : whole_unit depth_limit tokens ≡ Err refused
+  pub is : error ≡ error_of refused.reason refused.rest
+
+-- The text has tokens that spell a unit, but it is none that can be run so far.
+pub record IsUnbuilt (text : List ℕ) : Type 0 where
+  pub tokens : List Token
+  pub scanned : Scans 0 text tokens
+  pub unit : Tree
+  pub spelled : IsText tokens unit
+  pub other : small_of unit ≡ None
+
+-- the grammar refuses the text at this place, by L2 or by L3
+abbrev pub IsRefusedByGrammar : List ℕ → Place → ℕ → Type 0
+IsRefusedByGrammar text place rule =
+    ((rule ≡ 102) × IsUnparsed text (syntax.Syntax place)) ⊎ ((rule ≡ 103) × IsUnparsed text (syntax.Deep place))
+
+-- THE causes: why the text is refused at this place by the rule of this number, L1, L2, L3 or L9
+abbrev pub IsRefused : List ℕ → Place → ℕ → Type 0
+IsRefused text place rule =
+    ((rule ≡ 101) × IsUnscanned text place)
+    ⊎ (IsRefusedByGrammar text place rule ⊎ ((rule ≡ 109) × (place ≡ start_of 0) × IsUnbuilt text))
+
+-- why a text was not read, by cases on the error
+abbrev pub IsUnread : List ℕ → FrontErr → Type 0
+IsUnread text (errors.Refused refusal) = IsRefused text refusal.place refusal.rule
+IsUnread text errors.Memory = Unit {0}

@@ -1,0 +1,37 @@
+//! A text as a whole: its tokens, the unit that they spell, and the module that this is.
+ghost use Rattle.std.specs.Prelude.{◌≡◌, ◌≢◌, ◌≤◌, length, IfErr, IfOk};
+ghost use Rattle.dbpl_front.specs.Texts.{IsModule, IsNoModule, IsUnread};
+ghost use Rattle.dbpl_front.specs.declared.program.Program.{Program as Module};
+
+use crate::form::small;
+use crate::{FrontErr, Program};
+use dbpl_base::{Place, Refusal};
+use dbpl_parse_unit::parse;
+use dbpl_scan::scan;
+use std::alloc::Global;
+
+/// The rule that refuses a module of a form that isn't built yet.
+const UNBUILT: u16 = 109;
+
+/// The module that the text spells, if it is one that can be run so far.
+pub fn read(alloc: Global, text: &[u8]) -> Result<Program, FrontErr>
+    requires { length text.now ≤ 67108864 }
+    ensures found { IfOk result (λ program. IsModule text.now program) }
+    ensures only { IfOk result (λ program. (other : Module) → IsModule text.now other → other ≡ program) }
+    ensures refused { IfErr result (λ error. IsUnread text.now error) }
+    ensures no_module { IfErr result (λ error. error ≢ FrontErr.Memory → IsNoModule text.now) }
+{
+    let tokens = scan(alloc, 0, text)?;
+    let unit = parse(alloc, tokens.as_slice())?;
+    match small(alloc, &unit)? {
+        Some(program) => Ok(program),
+        None => Err(FrontErr::Refused(Refusal {
+            place: Place {
+                unit: 0,
+                line: 1,
+                col: 1,
+            },
+            rule: UNBUILT,
+        })),
+    }
+}

@@ -1,0 +1,4 @@
+pub mod Answered
+pub mod Depth
+pub mod Loops
+pub mod Pairs

@@ -1,0 +1,4 @@
+pub mod Calls
+pub mod Gives
+pub mod Made
+pub mod Nests

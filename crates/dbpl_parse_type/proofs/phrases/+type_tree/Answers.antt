@@ -1,0 +1,10 @@
+-- A depth is zero, or one more than that of the phrases inside.
+use Rattle.std.proofs.Common.{rules, arith}
+use Rattle.dbpl_parse_type.proofs.Depth.{deeper, shallow}
+use Rattle.dbpl_parse_type.proofs.phrases.+type_tree.Goals as goal
+
+pub returns-then-depth-eq0 : goal.returns-then-depth-eq0
+returns-then-depth-eq0 t c = rw (shallow c.args.depth (omega arith)) (search rules)
+
+pub returns : goal.returns
+returns t c = rw (deeper c.args.depth (omega arith)) c.whole_type.ensures
