@@ -5,7 +5,7 @@ use Rattle.dbpl_base.specs.Scans.{ScansFrom}
 use Rattle.dbpl_base.specs.declared.place.Place.{Place}
 use Rattle.dbpl_base.specs.declared.token.Token.{Token}
 use Rattle.dbpl_front.specs.Small.{small_of}
-use Rattle.dbpl_front.specs.Texts.{HasNoTokens, HasNoUnit, IsModule, IsNoModule, IsRefused, IsRefusedByGrammar, IsUnbuilt, IsUnparsed, IsUnscanned}
+use Rattle.dbpl_front.specs.Texts.{HasNoTokens, HasNoUnit, IsMisspelt, IsModule, IsNoModule, IsRefused, IsRefusedByGrammar, IsUnbuilt, IsUnparsed, IsUnscanned, SpellsUnit}
 use Rattle.dbpl_front.specs.declared.program.Program.{Program}
 use Rattle.dbpl_grammar.proofs.WholeLaw.{one_unit}
 use Rattle.dbpl_grammar.specs.Laws.{HasEnd, IsText}
@@ -17,6 +17,7 @@ use Rattle.dbpl_parse_expr.specs.declared.parse_err.ParseErr.TheVariants as synt
 use Rattle.dbpl_scan.proofs.WholeLaw.{Breaks, one_break, scans_only}
 use Rattle.dbpl_scan.specs.BreaksOff.{BreaksOffAt, ReadsTo}
 use Rattle.dbpl_scan.specs.Comments.{IsGap, Scans}
+use Rattle.dbpl_tree.specs.declared.unit.Unit.{Unit as Tree}
 
 -- ---- tokens
 
@@ -70,103 +71,109 @@ one_place unit text here place b o =
     } in
     one_break unit text b.tokens b.there b.rest here place b.reads breaks o
 
--- ---- answers
+-- ---- units
 
-pub one_module : (text : List ℕ) (first second : Program) → IsModule text first → IsModule text second → first ≡ second
-one_module text first second h k =
-    let tokens = one_scan 0 text k.tokens h.tokens k.scanned h.scanned in
-    let spelled = subst (λ (ts : List Token). IsText ts k.unit) tokens k.spelled in
-    let unit = one_unit h.tokens h.unit k.unit h.spelled.0 spelled.0 in
-    let same : Some first ≡ Some second = sym h.small ∙ ap small_of unit ∙ k.small in
-    cc
+pub one_tree : (number : ℕ) (text : List ℕ) (first second : Tree) → SpellsUnit number text first → SpellsUnit number text second → first ≡ second
+one_tree number text first second h k =
+    let tokens = one_scan number text k.tokens h.tokens k.scanned h.scanned in
+    let spelled = subst (λ (ts : List Token). IsText ts second) tokens k.spelled in
+    sym (one_unit h.tokens first second h.spelled.0 spelled.0)
 
-module_parsed : (text : List ℕ) (program : Program) (error : ParseErr) → IsModule text program → IsUnparsed text error → ⊥
-module_parsed text program error m u =
-    let tokens = one_scan 0 text m.tokens u.tokens m.scanned u.scanned in
-    u.none m.unit (subst (λ (ts : List Token). IsText ts m.unit) tokens m.spelled)
+unit_parsed : (number : ℕ) (text : List ℕ) (unit : Tree) (error : ParseErr) → SpellsUnit number text unit → IsUnparsed number text error → ⊥
+unit_parsed number text unit error h u =
+    let tokens = one_scan number text h.tokens u.tokens h.scanned u.scanned in
+    u.none unit (subst (λ (ts : List Token). IsText ts unit) tokens h.spelled)
 
-module_built : (text : List ℕ) (program : Program) → IsModule text program → IsUnbuilt text → ⊥
-module_built text program m u =
-    let tokens = one_scan 0 text u.tokens m.tokens u.scanned m.scanned in
-    let spelled = subst (λ (ts : List Token). IsText ts u.unit) tokens u.spelled in
-    let unit = one_unit m.tokens m.unit u.unit m.spelled.0 spelled.0 in
-    let none : Some program ≡ None = sym m.small ∙ ap small_of unit ∙ u.other in
-    cc
+pub unit_or_misspelt : (number : ℕ) (text : List ℕ) (unit : Tree) (place : Place) (rule : ℕ) → SpellsUnit number text unit → IsMisspelt number text place rule → ⊥
+unit_or_misspelt number text unit place rule h (inl u) = u.1.none h.tokens h.scanned
+unit_or_misspelt number text unit place rule h (inr (inl u)) = unit_parsed number text unit (syntax.Syntax place) h u.1
+unit_or_misspelt number text unit place rule h (inr (inr u)) = unit_parsed number text unit (syntax.Deep place) h u.1
 
-pub module_or_refusal : (text : List ℕ) (program : Program) (place : Place) (rule : ℕ) → IsModule text program → IsRefused text place rule → ⊥
-module_or_refusal text program place rule m (inl u) = u.1.none m.tokens m.scanned
-module_or_refusal text program place rule m (inr (inl (inl u))) = module_parsed text program (syntax.Syntax place) m u.1
-module_or_refusal text program place rule m (inr (inl (inr u))) = module_parsed text program (syntax.Deep place) m u.1
-module_or_refusal text program place rule m (inr (inr u)) = module_built text program m u.2
-
-one_error : (text : List ℕ) (one other : ParseErr) → IsUnparsed text one → IsUnparsed text other → one ≡ other
-one_error text one other h k =
-    let tokens = one_scan 0 text h.tokens k.tokens h.scanned k.scanned in
+one_error : (number : ℕ) (text : List ℕ) (one other : ParseErr) → IsUnparsed number text one → IsUnparsed number text other → one ≡ other
+one_error number text one other h k =
+    let tokens = one_scan number text h.tokens k.tokens h.scanned k.scanned in
     let same : Err h.refused ≡ Err k.refused = sym h.read ∙ ap (λ (ts : List Token). whole_unit depth_limit ts) tokens ∙ k.read in
     let refused : h.refused ≡ k.refused = cc in
     h.is ∙ ap (λ (r : Refused). error_of r.reason r.rest) refused ∙ sym k.is
 
-parsed_or_built : (text : List ℕ) (error : ParseErr) → IsUnparsed text error → IsUnbuilt text → ⊥
-parsed_or_built text error h k =
-    let tokens = one_scan 0 text k.tokens h.tokens k.scanned h.scanned in
-    h.none k.unit (subst (λ (ts : List Token). IsText ts k.unit) tokens k.spelled)
-
-syntax_or_deep : (text : List ℕ) (place other : Place) → IsUnparsed text (syntax.Syntax place) → IsUnparsed text (syntax.Deep other) → ⊥
-syntax_or_deep text place other h k =
-    let same : syntax.Syntax place ≡ syntax.Deep other = one_error text (syntax.Syntax place) (syntax.Deep other) h k in
+syntax_or_deep : (number : ℕ) (text : List ℕ) (place other : Place) → IsUnparsed number text (syntax.Syntax place) → IsUnparsed number text (syntax.Deep other) → ⊥
+syntax_or_deep number text place other h k =
+    let same : syntax.Syntax place ≡ syntax.Deep other = one_error number text (syntax.Syntax place) (syntax.Deep other) h k in
     cc
+
+pub one_misspelling : (number : ℕ) (text : List ℕ) (place other : Place) (rule another : ℕ) → IsMisspelt number text place rule →
+    IsMisspelt number text other another → (place ≡ other) × (rule ≡ another)
+one_misspelling number text place other rule another (inl h) (inl k) = (one_place number text other place k.1.breaks h.1.breaks, h.0 ∙ sym k.0)
+one_misspelling number text place other rule another (inl h) (inr (inl k)) = absurd (h.1.none k.1.tokens k.1.scanned)
+one_misspelling number text place other rule another (inl h) (inr (inr k)) = absurd (h.1.none k.1.tokens k.1.scanned)
+one_misspelling number text place other rule another (inr (inl h)) (inl k) = absurd (k.1.none h.1.tokens h.1.scanned)
+one_misspelling number text place other rule another (inr (inl h)) (inr (inl k)) =
+    let same : syntax.Syntax place ≡ syntax.Syntax other = one_error number text (syntax.Syntax place) (syntax.Syntax other) h.1 k.1 in
+    (cc, h.0 ∙ sym k.0)
+one_misspelling number text place other rule another (inr (inl h)) (inr (inr k)) = absurd (syntax_or_deep number text place other h.1 k.1)
+one_misspelling number text place other rule another (inr (inr h)) (inl k) = absurd (k.1.none h.1.tokens h.1.scanned)
+one_misspelling number text place other rule another (inr (inr h)) (inr (inl k)) = absurd (syntax_or_deep number text other place k.1 h.1)
+one_misspelling number text place other rule another (inr (inr h)) (inr (inr k)) =
+    let same : syntax.Deep place ≡ syntax.Deep other = one_error number text (syntax.Deep place) (syntax.Deep other) h.1 k.1 in
+    (cc, h.0 ∙ sym k.0)
+
+-- ---- answers
+
+pub one_module : (text : List ℕ) (first second : Program) → IsModule text first → IsModule text second → first ≡ second
+one_module text first second h k =
+    let unit = one_tree 0 text h.unit k.unit h.spelt k.spelt in
+    let same : Some first ≡ Some second = sym h.small ∙ ap small_of unit ∙ k.small in
+    cc
+
+module_built : (text : List ℕ) (program : Program) → IsModule text program → IsUnbuilt text → ⊥
+module_built text program m u =
+    let unit = one_tree 0 text m.unit u.unit m.spelt u.spelt in
+    let none : Some program ≡ None = sym m.small ∙ ap small_of unit ∙ u.other in
+    cc
+
+pub module_or_refusal : (text : List ℕ) (program : Program) (place : Place) (rule : ℕ) → IsModule text program → IsRefused text place rule → ⊥
+module_or_refusal text program place rule m (inl u) = unit_or_misspelt 0 text m.unit place rule m.spelt u
+module_or_refusal text program place rule m (inr u) = module_built text program m u.2
 
 pub one_refusal : (text : List ℕ) (place other : Place) (rule another : ℕ) → IsRefused text place rule → IsRefused text other another →
     (place ≡ other) × (rule ≡ another)
-one_refusal text place other rule another (inl h) (inl k) = (one_place 0 text other place k.1.breaks h.1.breaks, h.0 ∙ sym k.0)
-one_refusal text place other rule another (inl h) (inr (inl (inl k))) = absurd (h.1.none k.1.tokens k.1.scanned)
-one_refusal text place other rule another (inl h) (inr (inl (inr k))) = absurd (h.1.none k.1.tokens k.1.scanned)
-one_refusal text place other rule another (inl h) (inr (inr k)) = absurd (h.1.none k.2.tokens k.2.scanned)
-one_refusal text place other rule another (inr (inl (inl h))) (inl k) = absurd (k.1.none h.1.tokens h.1.scanned)
-one_refusal text place other rule another (inr (inl (inl h))) (inr (inl (inl k))) =
-    let same : syntax.Syntax place ≡ syntax.Syntax other = one_error text (syntax.Syntax place) (syntax.Syntax other) h.1 k.1 in
-    (cc, h.0 ∙ sym k.0)
-one_refusal text place other rule another (inr (inl (inl h))) (inr (inl (inr k))) = absurd (syntax_or_deep text place other h.1 k.1)
-one_refusal text place other rule another (inr (inl (inl h))) (inr (inr k)) = absurd (parsed_or_built text (syntax.Syntax place) h.1 k.2)
-one_refusal text place other rule another (inr (inl (inr h))) (inl k) = absurd (k.1.none h.1.tokens h.1.scanned)
-one_refusal text place other rule another (inr (inl (inr h))) (inr (inl (inl k))) = absurd (syntax_or_deep text other place k.1 h.1)
-one_refusal text place other rule another (inr (inl (inr h))) (inr (inl (inr k))) =
-    let same : syntax.Deep place ≡ syntax.Deep other = one_error text (syntax.Deep place) (syntax.Deep other) h.1 k.1 in
-    (cc, h.0 ∙ sym k.0)
-one_refusal text place other rule another (inr (inl (inr h))) (inr (inr k)) = absurd (parsed_or_built text (syntax.Deep place) h.1 k.2)
-one_refusal text place other rule another (inr (inr h)) (inl k) = absurd (k.1.none h.2.tokens h.2.scanned)
-one_refusal text place other rule another (inr (inr h)) (inr (inl (inl k))) = absurd (parsed_or_built text (syntax.Syntax other) k.1 h.2)
-one_refusal text place other rule another (inr (inr h)) (inr (inl (inr k))) = absurd (parsed_or_built text (syntax.Deep other) k.1 h.2)
-one_refusal text place other rule another (inr (inr h)) (inr (inr k)) = (h.1 ∙ sym k.1, h.0 ∙ sym k.0)
+one_refusal text place other rule another (inl h) (inl k) = one_misspelling 0 text place other rule another h k
+one_refusal text place other rule another (inl h) (inr k) = absurd (unit_or_misspelt 0 text k.2.unit place rule k.2.spelt h)
+one_refusal text place other rule another (inr h) (inl k) = absurd (unit_or_misspelt 0 text h.2.unit other another h.2.spelt k)
+one_refusal text place other rule another (inr h) (inr k) = (h.1 ∙ sym k.1, h.0 ∙ sym k.0)
 
 -- ---- texts that are no modules
 
 -- a text without tokens is no module, and nothing but the place where it breaks off is said of it
-pub no_tokens_module : (text : List ℕ) → HasNoTokens text → IsNoModule text
-no_tokens_module text none program m = none m.tokens m.scanned
+pub no_tokens_module : (text : List ℕ) → HasNoTokens 0 text → IsNoModule text
+no_tokens_module text none program m = none m.spelt.tokens m.spelt.scanned
 
-pub no_tokens_refusal : (text : List ℕ) (place : Place) (rule : ℕ) → HasNoTokens text → IsRefused text place rule → (rule ≡ 101) × IsUnscanned text place
-no_tokens_refusal text place rule none (inl u) = u
-no_tokens_refusal text place rule none (inr (inl (inl u))) = absurd (none u.1.tokens u.1.scanned)
-no_tokens_refusal text place rule none (inr (inl (inr u))) = absurd (none u.1.tokens u.1.scanned)
-no_tokens_refusal text place rule none (inr (inr u)) = absurd (none u.2.tokens u.2.scanned)
+no_tokens_misspelt : (number : ℕ) (text : List ℕ) (place : Place) (rule : ℕ) → HasNoTokens number text → IsMisspelt number text place rule → (rule ≡ 101) × IsUnscanned number text place
+no_tokens_misspelt number text place rule none (inl u) = u
+no_tokens_misspelt number text place rule none (inr (inl u)) = absurd (none u.1.tokens u.1.scanned)
+no_tokens_misspelt number text place rule none (inr (inr u)) = absurd (none u.1.tokens u.1.scanned)
+
+pub no_tokens_refusal : (text : List ℕ) (place : Place) (rule : ℕ) → HasNoTokens 0 text → IsRefused text place rule → (rule ≡ 101) × IsUnscanned 0 text place
+no_tokens_refusal text place rule none (inl u) = no_tokens_misspelt 0 text place rule none u
+no_tokens_refusal text place rule none (inr u) = absurd (none u.2.spelt.tokens u.2.spelt.scanned)
 
 -- a text whose tokens spell no unit is no module, and nothing but where that shows is said of it
-pub no_unit_module : (text : List ℕ) → HasNoUnit text → IsNoModule text
-no_unit_module text h program m =
-    let tokens = one_scan 0 text m.tokens h.tokens m.scanned h.scanned in
-    h.none m.unit (subst (λ (ts : List Token). IsText ts m.unit) tokens m.spelled)
+no_unit_unit : (number : ℕ) (text : List ℕ) (unit : Tree) → HasNoUnit number text → SpellsUnit number text unit → ⊥
+no_unit_unit number text unit h s =
+    let tokens = one_scan number text s.tokens h.tokens s.scanned h.scanned in
+    h.none unit (subst (λ (ts : List Token). IsText ts unit) tokens s.spelled)
 
-pub no_unit_refusal : (text : List ℕ) (place : Place) (rule : ℕ) → HasNoUnit text → IsRefused text place rule → IsRefusedByGrammar text place rule
-no_unit_refusal text place rule h (inl u) = absurd (u.1.none h.tokens h.scanned)
-no_unit_refusal text place rule h (inr (inl u)) = u
-no_unit_refusal text place rule h (inr (inr u)) =
-    let tokens = one_scan 0 text u.2.tokens h.tokens u.2.scanned h.scanned in
-    absurd (h.none u.2.unit (subst (λ (ts : List Token). IsText ts u.2.unit) tokens u.2.spelled))
+pub no_unit_module : (text : List ℕ) → HasNoUnit 0 text → IsNoModule text
+no_unit_module text h program m = no_unit_unit 0 text m.unit h m.spelt
+
+pub no_unit_refusal : (text : List ℕ) (place : Place) (rule : ℕ) → HasNoUnit 0 text → IsRefused text place rule → IsRefusedByGrammar 0 text place rule
+no_unit_refusal text place rule h (inl (inl u)) = absurd (u.1.none h.tokens h.scanned)
+no_unit_refusal text place rule h (inl (inr u)) = u
+no_unit_refusal text place rule h (inr u) = absurd (no_unit_unit 0 text u.2.unit h u.2.spelt)
 
 -- a text whose unit is none of the form is no module, and is refused for that
 pub unbuilt_module : (text : List ℕ) → IsUnbuilt text → IsNoModule text
 unbuilt_module text h program m = module_built text program m h
 
 pub unbuilt_refusal : (text : List ℕ) (place : Place) (rule : ℕ) → IsUnbuilt text → IsRefused text place rule → (place ≡ start_of 0) × (rule ≡ 109)
-unbuilt_refusal text place rule h k = one_refusal text place (start_of 0) rule 109 k (inr (inr (refl, refl, h)))
+unbuilt_refusal text place rule h k = one_refusal text place (start_of 0) rule 109 k (inr (refl, refl, h))

@@ -18,12 +18,16 @@ use Rattle.dbpl_scan.specs.BreaksOff.{BreaksOffAt}
 use Rattle.dbpl_scan.specs.Comments.{Scans}
 use Rattle.dbpl_tree.specs.declared.unit.Unit.{Unit as Tree}
 
--- THE texts that can be run: the text has tokens, they spell a unit, and that is this module.
-pub record IsModule (text : List ℕ) (program : Program) : Type 0 where
+-- The text has tokens, and they spell this unit. The number is that of the text among those of a command; places have it.
+pub record SpellsUnit (number : ℕ) (text : List ℕ) (unit : Tree) : Type 0 where
   pub tokens : List Token
-  pub scanned : Scans 0 text tokens
-  pub unit : Tree
+  pub scanned : Scans number text tokens
   pub spelled : IsText tokens unit
+
+-- THE texts that can be run: the text spells a unit, and that is this module.
+pub record IsModule (text : List ℕ) (program : Program) : Type 0 where
+  pub unit : Tree
+  pub spelt : SpellsUnit 0 text unit
   pub small : small_of unit ≡ Some program
 
 -- no module that can be run so far has this text
@@ -33,48 +37,54 @@ IsNoModule text = (program : Program) → ¬ IsModule text program
 -- ---- refusals
 
 -- the text has no tokens
-abbrev pub HasNoTokens : List ℕ → Type 0
-HasNoTokens text = (tokens : List Token) → ¬ Scans 0 text tokens
+abbrev pub HasNoTokens : ℕ → List ℕ → Type 0
+HasNoTokens number text = (tokens : List Token) → ¬ Scans number text tokens
 
 -- The text has no tokens, since here neither a blank nor a whole comment nor a token stands.
-pub record IsUnscanned (text : List ℕ) (place : Place) : Type 0 where
-  pub breaks : BreaksOffAt 0 text place
-  pub none : HasNoTokens text
+pub record IsUnscanned (number : ℕ) (text : List ℕ) (place : Place) : Type 0 where
+  pub breaks : BreaksOffAt number text place
+  pub none : HasNoTokens number text
 
 -- The text has tokens, but they spell no unit that isn't too deep.
-pub record HasNoUnit (text : List ℕ) : Type 0 where
+pub record HasNoUnit (number : ℕ) (text : List ℕ) : Type 0 where
   pub tokens : List Token
-  pub scanned : Scans 0 text tokens
+  pub scanned : Scans number text tokens
   pub none : (unit : Tree) → ¬ IsText tokens unit
 
 -- The text has tokens, but they spell no unit that isn't too deep; this says where that shows, as the grammar reads them.
-pub record IsUnparsed (text : List ℕ) (error : ParseErr) : Type 0 where
+pub record IsUnparsed (number : ℕ) (text : List ℕ) (error : ParseErr) : Type 0 where
   pub tokens : List Token
-  pub scanned : Scans 0 text tokens
+  pub scanned : Scans number text tokens
   pub none : (unit : Tree) → ¬ IsText tokens unit
   pub at : TextRefusedAt tokens error
   pub refused : Refused
   pub read : whole_unit depth_limit tokens ≡ Err refused
   pub is : error ≡ error_of refused.reason refused.rest
 
--- The text has tokens that spell a unit, but it is none that can be run so far.
+-- The text spells a unit, but it is none that can be run so far.
 pub record IsUnbuilt (text : List ℕ) : Type 0 where
-  pub tokens : List Token
-  pub scanned : Scans 0 text tokens
   pub unit : Tree
-  pub spelled : IsText tokens unit
+  pub spelt : SpellsUnit 0 text unit
   pub other : small_of unit ≡ None
 
 -- the grammar refuses the text at this place, by L2 or by L3
-abbrev pub IsRefusedByGrammar : List ℕ → Place → ℕ → Type 0
-IsRefusedByGrammar text place rule =
-    ((rule ≡ 102) × IsUnparsed text (syntax.Syntax place)) ⊎ ((rule ≡ 103) × IsUnparsed text (syntax.Deep place))
+abbrev pub IsRefusedByGrammar : ℕ → List ℕ → Place → ℕ → Type 0
+IsRefusedByGrammar number text place rule =
+    ((rule ≡ 102) × IsUnparsed number text (syntax.Syntax place)) ⊎ ((rule ≡ 103) × IsUnparsed number text (syntax.Deep place))
+
+-- why the text spells no unit: it is refused at this place by the rule of this number, L1, L2 or L3
+abbrev pub IsMisspelt : ℕ → List ℕ → Place → ℕ → Type 0
+IsMisspelt number text place rule =
+    ((rule ≡ 101) × IsUnscanned number text place) ⊎ IsRefusedByGrammar number text place rule
 
 -- THE causes: why the text is refused at this place by the rule of this number, L1, L2, L3 or L9
 abbrev pub IsRefused : List ℕ → Place → ℕ → Type 0
-IsRefused text place rule =
-    ((rule ≡ 101) × IsUnscanned text place)
-    ⊎ (IsRefusedByGrammar text place rule ⊎ ((rule ≡ 109) × (place ≡ start_of 0) × IsUnbuilt text))
+IsRefused text place rule = IsMisspelt 0 text place rule ⊎ ((rule ≡ 109) × (place ≡ start_of 0) × IsUnbuilt text)
+
+-- why no unit was found in a text, by cases on the error
+abbrev pub IsUnspelt : ℕ → List ℕ → FrontErr → Type 0
+IsUnspelt number text (errors.Refused refusal) = IsMisspelt number text refusal.place refusal.rule
+IsUnspelt number text errors.Memory = Unit {0}
 
 -- why a text was not read, by cases on the error
 abbrev pub IsUnread : List ℕ → FrontErr → Type 0

@@ -5,7 +5,7 @@ ghost use Rattle.dbpl_base.specs.declared.place.Place.{Place};
 ghost use Rattle.dbpl_base.specs.declared.token.Token.{Token};
 ghost use Rattle.dbpl_front.specs.Program.{IsSmall, spell};
 ghost use Rattle.dbpl_front.specs.Small.{small_of};
-ghost use Rattle.dbpl_front.specs.Texts.{IsModule, IsRefused};
+ghost use Rattle.dbpl_front.specs.Texts.{IsMisspelt, IsModule, IsRefused, SpellsUnit};
 ghost use Rattle.dbpl_front.specs.Units.{unit_of};
 ghost use Rattle.dbpl_front.specs.declared.program.Program.{Program};
 ghost use Rattle.dbpl_scan.specs.Comments.{Scans};
@@ -17,6 +17,13 @@ pub fn one_answer()
     ensures module { (text : List ℕ) (first second : Program) → IsModule text first → IsModule text second → first ≡ second }
     ensures either { (text : List ℕ) (program : Program) (place : Place) (rule : ℕ) → IsModule text program → ¬ IsRefused text place rule }
     ensures refusal { (text : List ℕ) (place other : Place) (rule another : ℕ) → IsRefused text place rule → IsRefused text other another → (place ≡ other) × (rule ≡ another) }
+{}
+
+/// A text spells one unit, or it is refused at one place by one rule.
+pub fn one_unit()
+    ensures unit { (number : ℕ) (text : List ℕ) (first second : Tree) → SpellsUnit number text first → SpellsUnit number text second → first ≡ second }
+    ensures either { (number : ℕ) (text : List ℕ) (unit : Tree) (place : Place) (rule : ℕ) → SpellsUnit number text unit → ¬ IsMisspelt number text place rule }
+    ensures refusal { (number : ℕ) (text : List ℕ) (place other : Place) (rule another : ℕ) → IsMisspelt number text place rule → IsMisspelt number text other another → (place ≡ other) × (rule ≡ another) }
 {}
 
 /// The trees that are such modules are those with their spellings, and so are their texts. The places in a tree are free.

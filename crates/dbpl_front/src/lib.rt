@@ -11,7 +11,7 @@ mod statement;
 
 pub use form::small;
 pub use front_err::FrontErr;
-pub use laws::{one_answer, one_form};
+pub use laws::{one_answer, one_form, one_unit};
 pub use program::Program;
-pub use reading::read;
+pub use reading::{read, unit_in};
 pub use statement::Statement;

@@ -20,4 +20,4 @@ returns-clause-spelling c = one-spelling
 pub returns-clause-texts : goal.returns-clause-texts
 returns-clause-texts c = λ text tokens program is scanned e.
     let spelt = tokens_spelt tokens program is e in
-    record { tokens = tokens; scanned = scanned; unit = spelt.unit; spelled = spelt.spelled; small = spelt.small }
+    record { unit = spelt.unit; spelt = record { tokens = tokens; scanned = scanned; spelled = spelt.spelled }; small = spelt.small }

@@ -68,12 +68,12 @@ returns-clause-refused g c = λ file text asked told within none.
 
 pub returns-clause-refused_text : goal.returns-clause-refused_text
 returns-clause-refused_text g c = λ file text asked told within none.
-    refused (whole_run g c) (IsItsReport g c) c.run-status.result file text (λ place rule. (rule ≡ 101) × IsUnscanned text place) (cause g c)
+    refused (whole_run g c) (IsItsReport g c) c.run-status.result file text (λ place rule. (rule ≡ 101) × IsUnscanned 0 text place) (cause g c)
     asked told within (no_tokens_module text none) (λ place rule is. no_tokens_refusal text place rule none is)
 
 pub returns-clause-refused_unit : goal.returns-clause-refused_unit
 returns-clause-refused_unit g c = λ file text asked told within none.
-    refused (whole_run g c) (IsItsReport g c) c.run-status.result file text (IsRefusedByGrammar text) (cause g c)
+    refused (whole_run g c) (IsItsReport g c) c.run-status.result file text (IsRefusedByGrammar 0 text) (cause g c)
     asked told within (no_unit_module text none) (λ place rule is. no_unit_refusal text place rule none is)
 
 pub returns-clause-refused_form : goal.returns-clause-refused_form
