@@ -7,7 +7,8 @@ ghost use Rattle.std.specs.Prelude.{◌≡◌, ◌<◌};
 mod words;
 
 use dbpl_base::{Name, Status, Steps};
-use dbpl_tool::{dbpl, note_report};
+use dbpl_tool::dbpl;
+use dbpl_words::note_report;
 use dbpl_world::{FileShelf, RealWorld, Shelf, World};
 use std::alloc::Global;
 use std::marker::Brand;

@@ -77,7 +77,7 @@ pub one_tree : (number : ℕ) (text : List ℕ) (first second : Tree) → Spells
 one_tree number text first second h k =
     let tokens = one_scan number text k.tokens h.tokens k.scanned h.scanned in
     let spelled = subst (λ (ts : List Token). IsText ts second) tokens k.spelled in
-    sym (one_unit h.tokens first second h.spelled.0 spelled.0)
+    one_unit h.tokens first second h.spelled.0 spelled.0
 
 unit_parsed : (number : ℕ) (text : List ℕ) (unit : Tree) (error : ParseErr) → SpellsUnit number text unit → IsUnparsed number text error → ⊥
 unit_parsed number text unit error h u =

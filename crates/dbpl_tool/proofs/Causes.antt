@@ -6,16 +6,13 @@ use Rattle.dbpl_base.specs.declared.status.Status.{Status}
 use Rattle.dbpl_base.specs.declared.status.Status.TheVariants.{Absent, Done, Memory, OutFault, Refused, SourceFault, TooLong}
 use Rattle.dbpl_tool.proofs.MeaningLaws.{prints_all, prints_prefix}
 use Rattle.dbpl_tool.specs.Answers.{Caused, IsNotRead, IsTheModule, Reads, Run, Silent}
-use Rattle.dbpl_tool.specs.Asked.{Asks}
+use Rattle.dbpl_words.specs.Asked.{AsksAlone}
 use Rattle.dbpl_tool.specs.Meaning.{printed_by}
 use Rattle.dbpl_tool.specs.Sources.{IsUnread}
+use Rattle.dbpl_words.proofs.Appending.{more-nil}
 use Rattle.dbpl_front.specs.declared.program.Program.{Program}
 use Rattle.dbpl_world.specs.Counts.{Rose}
 use Rattle.dbpl_world.specs.History.{Event, History, Noted, Said, more}
-
--- nothing more has happened
-pub more-nil : (h : History) → h ≡ more h []
-more-nil h = ap (λ (events : List Event). let same : History = record { start = h.start; events = events } in same) (sym (append-nil h.events))
 
 -- nothing is noted
 abbrev pub IsNothing : List ℕ → Type 0
@@ -29,7 +26,7 @@ still run same told = ([], [], refl, refl, same ∙ more-nil run.before)
 said_alone : (h : History) (bytes : List ℕ) → more h (map Said bytes) ≡ more h (map Said bytes ++ map Noted [])
 said_alone h bytes = ap (λ (events : List Event). more h events) (sym (append-nil (map Said bytes)))
 
-pub unread : (run : Run) (file : List ℕ) (status : Status) → Asks run.words file →
+pub unread : (run : Run) (file : List ℕ) (status : Status) → AsksAlone run.words file →
     IsUnread run.files file run.shelf_faults_before run.shelf_faults_after status → Silent run IsNothing → Caused run IsNothing status
 unread run file (Absent name) asked cause silent = rw cause.0 (asked, cause.1, silent)
 unread run file (TooLong name) asked cause silent = rw cause.0 (asked, cause.1, silent)

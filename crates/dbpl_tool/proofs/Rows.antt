@@ -6,16 +6,16 @@ use Rattle.dbpl_base.specs.declared.place.Place.{Place}
 use Rattle.dbpl_base.specs.declared.limits.TheConstants.{SOURCE_BYTES}
 use Rattle.dbpl_base.specs.declared.status.Status.{Status}
 use Rattle.dbpl_base.specs.declared.status.Status.TheVariants.{Absent, BadWords, Done, Memory, OutFault, Refused, SourceFault, TooLong}
-use Rattle.dbpl_tool.proofs.Appending.{more-more}
 use Rattle.dbpl_tool.proofs.Causes.{IsNothing}
 use Rattle.dbpl_tool.specs.Answers.{Caused, IsOrMemory, IsRefusalUnlessUnread, IsSilent, IsTheModule, IsUnlessUnread, Reads, Reports, Run, Says, Silent}
 use Rattle.dbpl_tool.proofs.Moments.{all_prefix, nothing_prefix}
-use Rattle.dbpl_tool.specs.Asked.{Asks}
+use Rattle.dbpl_words.specs.Asked.{AsksAlone}
 use Rattle.dbpl_tool.specs.Headline.{PrintsAll, PrintsPrefix}
 use Rattle.dbpl_tool.specs.Sources.{IsAbsent, IsTooLong}
 use Rattle.dbpl_front.proofs.TextLaw.{module_or_refusal}
 use Rattle.dbpl_front.specs.Texts.{IsModule, IsNoModule, IsRefused}
 use Rattle.dbpl_front.specs.declared.program.Program.{Program}
+use Rattle.dbpl_world.proofs.Replays.{more-more}
 use Rattle.dbpl_world.specs.Counts.{OnlyNoteFaults, OnlySayFaults, Rose}
 use Rattle.dbpl_world.specs.declared.counts.Counts.{Counts}
 use Rattle.dbpl_world.specs.Files.{Files, file_of}
@@ -23,7 +23,7 @@ use Rattle.dbpl_world.specs.History.{Event, History, Noted, Said, more}
 use Rattle.dbpl_world.specs.declared.failed.Failed.{Failed}
 
 -- the words ask for one file
-pub one_file : (words : List (List ℕ)) (file other : List ℕ) → Asks words file → Asks words other → file ≡ other
+pub one_file : (words : List (List ℕ)) (file other : List ℕ) → AsksAlone words file → AsksAlone words other → file ≡ other
 one_file words file other asked also = cc (asked.words_are, also.words_are)
 
 -- the file has one text
@@ -112,20 +112,21 @@ caused_reported run after counts OutFault notes cause = (
 caused_reported run after counts Memory notes cause = says_reported run after counts Memory _ notes cause
 caused_reported run after counts (TooLong name) notes cause =
     (cause.0, cause.1, says_reported run after counts (TooLong name) _ notes cause.2)
+caused_reported run after counts _ notes cause = absurd cause
 
 -- where the words ask for a file that has a text, they have a reading
-reading : (run : Run) (file : List ℕ) → Asks run.words file → ((other : List ℕ) → Asks run.words other → ⊥) → ⊥
+reading : (run : Run) (file : List ℕ) → AsksAlone run.words file → ((other : List ℕ) → AsksAlone run.words other → ⊥) → ⊥
 reading run file asked none = none file asked
 
 -- where the file has a text, it isn't absent
-not_absent : (files : Option Files) (words : List (List ℕ)) (file name text : List ℕ) → Asks words file → Asks words name →
+not_absent : (files : Option Files) (words : List (List ℕ)) (file name text : List ℕ) → AsksAlone words file → AsksAlone words name →
     IsSomeAnd files (λ files. file_of files file ≡ Some text) → IsAbsent files name → ⊥
 not_absent None words file name text asked also told absent = told
 not_absent (Some files) words file name text asked also told absent =
     let here = subst (λ (f : List ℕ). file_of files f ≡ Some text) (one_file words file name asked also) told in cc (here, absent)
 
 -- where it has a text within the limit, it isn't too long
-not_too_long : (files : Option Files) (words : List (List ℕ)) (file name text : List ℕ) → Asks words file → Asks words name →
+not_too_long : (files : Option Files) (words : List (List ℕ)) (file name text : List ℕ) → AsksAlone words file → AsksAlone words name →
     IsSomeAnd files (λ files. file_of files file ≡ Some text) → length text ≤ SOURCE_BYTES → IsTooLong files name → ⊥
 not_too_long None words file name text asked also told within long = told
 not_too_long (Some files) words file name text asked also told within long =
@@ -134,7 +135,7 @@ not_too_long (Some files) words file name text asked also told within long =
     let longer = subst (λ (t : List ℕ). SOURCE_BYTES < length t) same long.2 in omega (arith, longer, within)
 
 -- the text that was read is the one that the file has
-same_text : (run : Run) (file text read other : List ℕ) → Asks run.words file →
+same_text : (run : Run) (file text read other : List ℕ) → AsksAlone run.words file →
     IsSomeAnd run.files (λ files. file_of files file ≡ Some text) → Reads run read other → other ≡ text
 same_text run file text read other asked told reads =
     let same = one_file run.words read file reads.asked asked in
@@ -142,7 +143,7 @@ same_text run file text read other asked told reads =
 
 -- where the text of the file is a module's and no fault comes, the answer is Done
 pub complete : (run : Run) (N : List ℕ → Type 0) (status : Status) (file text : List ℕ) (program : Program) → Caused run N status →
-    Asks run.words file → IsSomeAnd run.files (λ files. file_of files file ≡ Some text) → length text ≤ SOURCE_BYTES →
+    AsksAlone run.words file → IsSomeAnd run.files (λ files. file_of files file ≡ Some text) → length text ≤ SOURCE_BYTES →
     IsModule text program → (Rose run.shelf_faults_before run.shelf_faults_after → ⊥) →
     (Rose run.counts_before.say_faults run.counts_after.say_faults → ⊥) → IsOrMemory status Done
 complete run N Done file text program cause asked told within spelt read said = inl refl
@@ -158,10 +159,11 @@ complete run N OutFault file text program cause asked told within spelt read sai
 complete run N Memory file text program cause asked told within spelt read said = inr refl
 complete run N (TooLong name) file text program cause asked told within spelt read said =
     absurd (not_too_long run.files run.words file name text asked cause.0 told within cause.1)
+complete run N _ file text program cause asked told within spelt read said = absurd cause
 
 -- where the text of the file is no module's, it is refused, and what its refusals tell holds
 pub refused : (run : Run) (N : List ℕ → Type 0) (status : Status) (file text : List ℕ) (P : Place → ℕ → Type 0) → Caused run N status →
-    Asks run.words file → IsSomeAnd run.files (λ files. file_of files file ≡ Some text) → length text ≤ SOURCE_BYTES →
+    AsksAlone run.words file → IsSomeAnd run.files (λ files. file_of files file ≡ Some text) → length text ≤ SOURCE_BYTES →
     IsNoModule text → ((place : Place) (rule : ℕ) → IsRefused text place rule → P place rule) → IsRefusalUnlessUnread status P
 refused run N Done file text P cause asked told within none tells =
     let same = same_text run file text cause.0 cause.1 asked told cause.3 in
@@ -179,6 +181,7 @@ refused run N OutFault file text P cause asked told within none tells =
 refused run N Memory file text P cause asked told within none tells = inr (inr refl)
 refused run N (TooLong name) file text P cause asked told within none tells =
     absurd (not_too_long run.files run.words file name text asked cause.0 told within cause.1)
+refused run N _ file text P cause asked told within none tells = absurd cause
 
 -- a refusal of which the place and the rule are known is the one that is due
 pub due : (status : Status) (place : Place) (rule : ℕ) → IsRefusalUnlessUnread status (λ there number. (there ≡ place) × (number ≡ rule)) →
@@ -189,7 +192,7 @@ due status place rule (inr fault) = inr fault
 
 -- where the answer is a refusal, the text of the file has it
 pub refused_only : (run : Run) (N : List ℕ → Type 0) (status : Status) (place : Place) (rule : ℕ) → Caused run N status → status ≡ Refused place rule →
-    (file : List ℕ) × Asks run.words file × IfSome run.files (λ files. (text : List ℕ) × (file_of files file ≡ Some text) × IsRefused text place rule)
+    (file : List ℕ) × AsksAlone run.words file × IfSome run.files (λ files. (text : List ℕ) × (file_of files file ≡ Some text) × IsRefused text place rule)
 refused_only run N status place rule cause is =
     let here = subst (λ (s : Status). Caused run N s) is cause in
     (here.0, here.2.asked, told_refusal run.files here.0 here.1 here.2.found here.3)
@@ -201,7 +204,7 @@ refused_only run N status place rule cause is =
 
 -- where the answer is Done, the text of the file is a module
 pub done_only : (run : Run) (N : List ℕ → Type 0) (status : Status) → Caused run N status → status ≡ Done →
-    (file : List ℕ) × Asks run.words file × IfSome run.files (λ files. (text : List ℕ) × (program : Program) × (file_of files file ≡ Some text) × IsModule text program)
+    (file : List ℕ) × AsksAlone run.words file × IfSome run.files (λ files. (text : List ℕ) × (program : Program) × (file_of files file ≡ Some text) × IsModule text program)
 done_only run N status cause is =
     let here = subst (λ (s : Status). Caused run N s) is cause in
     (here.0, here.3.asked, told_module run.files here.0 here.1 here.2 here.3.found here.4.spelt)
@@ -212,7 +215,7 @@ done_only run N status cause is =
     told_module (Some files) file text program found m = (text, program, found, m)
 
 -- where the words ask for nothing, they are refused
-pub bad_words : (run : Run) (N : List ℕ → Type 0) (status : Status) → Caused run N status → ((file : List ℕ) → Asks run.words file → ⊥) →
+pub bad_words : (run : Run) (N : List ℕ → Type 0) (status : Status) → Caused run N status → ((file : List ℕ) → AsksAlone run.words file → ⊥) →
     IsOrMemory status BadWords
 bad_words run N Done cause none = absurd (none cause.0 cause.3.asked)
 bad_words run N BadWords cause none = inl refl
@@ -222,6 +225,7 @@ bad_words run N SourceFault cause none = absurd (none cause.0 cause.1)
 bad_words run N OutFault cause none = absurd (none cause.0 cause.3.asked)
 bad_words run N Memory cause none = inr refl
 bad_words run N (TooLong name) cause none = absurd (none name cause.0)
+bad_words run N _ cause none = absurd cause
 
 -- where the answer is no print's, nothing was said
 pub silent : (run : Run) (N : List ℕ → Type 0) (status : Status) → Caused run N status → IsSilent status → Silent run N
@@ -233,6 +237,7 @@ silent run N SourceFault cause quiet = cause.3
 silent run N OutFault cause quiet = absurd quiet
 silent run N Memory cause quiet = cause
 silent run N (TooLong name) cause quiet = cause.2
+silent run N _ cause quiet = absurd cause
 
 -- whatever the answer, bytes were said and then noted, and nothing else happened
 pub says_something : (run : Run) (N : List ℕ → Type 0) (status : Status) → Caused run N status → Says run (λ said. Unit {0}) N
@@ -244,9 +249,10 @@ says_something run N SourceFault cause told = let says = cause.3 told in (says.0
 says_something run N OutFault cause told = let says = cause.6 told in (says.0, says.1, tt, says.3, says.4)
 says_something run N Memory cause told = let says = cause told in (says.0, says.1, tt, says.3, says.4)
 says_something run N (TooLong name) cause told = let says = cause.2 told in (says.0, says.1, tt, says.3, says.4)
+says_something run N _ cause told = absurd cause
 
 -- the module that ran is the one whose text the file has
-same_module : (run : Run) (file text read other : List ℕ) (program ran : Program) → Asks run.words file →
+same_module : (run : Run) (file text read other : List ℕ) (program ran : Program) → AsksAlone run.words file →
     IsSomeAnd run.files (λ files. file_of files file ≡ Some text) → IsModule text program → Reads run read other →
     IsTheModule other ran → ran ≡ program
 same_module run file text read other program ran asked told spelt reads the =
@@ -260,7 +266,7 @@ nothing_said run N program quiet tells =
 
 -- what was said is what a prefix of the module's events prints
 pub says_prefix : (run : Run) (N : List ℕ → Type 0) (status : Status) (file text : List ℕ) (program : Program) → Caused run N status →
-    Asks run.words file → IsSomeAnd run.files (λ files. file_of files file ≡ Some text) → IsModule text program →
+    AsksAlone run.words file → IsSomeAnd run.files (λ files. file_of files file ≡ Some text) → IsModule text program →
     Says run (PrintsPrefix program) N
 says_prefix run N Done file text program cause asked told spelt tells =
     let says = cause.5 tells in
@@ -276,10 +282,11 @@ says_prefix run N (Absent name) file text program cause asked told spelt tells =
 says_prefix run N SourceFault file text program cause asked told spelt tells = nothing_said run N program cause.3 tells
 says_prefix run N Memory file text program cause asked told spelt tells = nothing_said run N program cause tells
 says_prefix run N (TooLong name) file text program cause asked told spelt tells = nothing_said run N program cause.2 tells
+says_prefix run N _ file text program cause asked told spelt tells = absurd cause
 
 -- a command that is done has said what all events of the module print
 pub says_all : (run : Run) (N : List ℕ → Type 0) (status : Status) (file text : List ℕ) (program : Program) → Caused run N status →
-    Asks run.words file → IsSomeAnd run.files (λ files. file_of files file ≡ Some text) → IsModule text program → status ≡ Done →
+    AsksAlone run.words file → IsSomeAnd run.files (λ files. file_of files file ≡ Some text) → IsModule text program → status ≡ Done →
     Says run (PrintsAll program) N
 says_all run N status file text program cause asked told spelt done tells =
     let here = subst (λ (s : Status). Caused run N s) done cause in

@@ -5,7 +5,7 @@ use Rattle.dbpl_base.specs.declared.place.Place.{Place}
 use Rattle.dbpl_base.specs.declared.status.Status.{Status}
 use Rattle.dbpl_base.specs.declared.status.Status.TheVariants as status
 use Rattle.dbpl_base.specs.declared.limits.TheConstants.{SOURCE_BYTES}
-use Rattle.dbpl_tool.specs.Asked.{Asks}
+use Rattle.dbpl_words.specs.Asked.{AsksAlone}
 use Rattle.dbpl_tool.specs.Headline.{PrintsAll, PrintsPrefix}
 use Rattle.dbpl_tool.specs.Sources.{IsAbsent, IsTooLong}
 use Rattle.dbpl_front.specs.Texts.{IsModule, IsRefused}
@@ -29,7 +29,7 @@ pub record Run : Type 0 where
 
 -- The words ask for this file. Where the files are told it has this text, and the text keeps the limit.
 pub record Reads (run : Run) (file text : List ℕ) : Type 0 where
-  pub asked : Asks run.words file
+  pub asked : AsksAlone run.words file
   pub found : IfSome run.files (λ files. file_of files file ≡ Some text)
   pub within : length text ≤ SOURCE_BYTES
 
@@ -55,22 +55,24 @@ IsNotRead text status.Memory = Unit {0}
 IsNotRead text _ = ⊥
 
 -- THE causes: why a command that noted bytes of which N holds was answered so, by cases. Want of memory is free, and a
--- fault may stand beside another cause; where the files are told, the other cases exclude each other.
+-- fault may stand beside another cause; where the files are told, the other cases exclude each other. No other answer
+-- comes.
 abbrev pub Caused : Run → (List ℕ → Type 0) → Status → Type 0
 Caused run N status.Done =
     (file text : List ℕ) × (program : Program) × Reads run file text × IsTheModule text program
     × Says run (PrintsAll program) N
-Caused run N status.BadWords = ((file : List ℕ) → Asks run.words file → ⊥) × Silent run N
+Caused run N status.BadWords = ((file : List ℕ) → AsksAlone run.words file → ⊥) × Silent run N
 Caused run N (status.Refused place rule) =
     (file text : List ℕ) × Reads run file text × IsRefused text place rule × Silent run N
-Caused run N (status.Absent name) = Asks run.words name × IsAbsent run.files name × Silent run N
+Caused run N (status.Absent name) = AsksAlone run.words name × IsAbsent run.files name × Silent run N
 Caused run N status.SourceFault =
-    (file : List ℕ) × Asks run.words file × Rose run.shelf_faults_before run.shelf_faults_after × Silent run N
+    (file : List ℕ) × AsksAlone run.words file × Rose run.shelf_faults_before run.shelf_faults_after × Silent run N
 Caused run N status.OutFault =
     (file text : List ℕ) × (program : Program) × Reads run file text × IsTheModule text program
     × Rose run.counts_before.say_faults run.counts_after.say_faults × Says run (PrintsPrefix program) N
 Caused run N status.Memory = Silent run N
-Caused run N (status.TooLong name) = Asks run.words name × IsTooLong run.files name × Silent run N
+Caused run N (status.TooLong name) = AsksAlone run.words name × IsTooLong run.files name × Silent run N
+Caused run N _ = ⊥
 
 -- The bytes are the report of this answer, or a front of it where a note failed.
 abbrev pub Reports : Counts → Counts → Status → List ℕ → Type 0

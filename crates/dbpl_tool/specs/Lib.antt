@@ -1,5 +1,4 @@
 pub mod Answers
-pub mod Asked
 pub mod Events
 pub mod Headline
 pub mod Meaning

@@ -3,10 +3,10 @@ ghost use Rattle.std.specs.Prelude.{◌≡◌, ◌≤◌, []};
 ghost use Rattle.dbpl_tool.specs.Answers.{Caused, IsSilent};
 ghost use Rattle.dbpl_world.specs.Counts.{OnlySayFaults};
 
-use crate::asked::asked;
 use crate::printing::print_program;
 use crate::sources::{module, source};
 use dbpl_base::{Name, Status};
+use dbpl_words::alone;
 use dbpl_world::{Failed, Shelf, World};
 use std::alloc::Global;
 
@@ -35,7 +35,7 @@ pub fn run<W: World, S: Shelf>(
     ensures files { S.files shelf.new ≡ S.files shelf.old }
     ensures faults { S.shelf_faults shelf.old ≤ S.shelf_faults shelf.new }
 {
-    let Some(file) = asked(words) else {
+    let Some(file) = alone(words) else {
         return Status::BadWords;
     };
     let text = match source(alloc, shelf, file) {

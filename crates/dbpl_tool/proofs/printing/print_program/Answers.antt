@@ -2,7 +2,7 @@
 use Rattle.std.proofs.Common.{◌+◌, drop, take}
 use Rattle.std.proofs.lemmas.Result.{err_from_is_err_and}
 use Rattle.std.specs.List.{flat_map}
-use Rattle.dbpl_tool.proofs.Appending.{flat_map-at_item, front}
+use Rattle.dbpl_words.proofs.Appending.{flat_map-at_item, front}
 use Rattle.dbpl_tool.specs.Meaning.{printed_by}
 use Rattle.dbpl_world.specs.History.{Said}
 use Rattle.dbpl_tool.proofs.printing.print_program.Goals as goal

@@ -3,7 +3,7 @@ use Rattle.std.proofs.Common.{◌≡◌, IsTrue, map, take}
 use Rattle.std.specs.List.{flat_map}
 use Rattle.dbpl_world.specs.Counts.{OnlyNoteFaults}
 use Rattle.dbpl_world.specs.History.{Noted, more}
-use Rattle.dbpl_tool.proofs.noting.note_pieces.Given as goal
+use Rattle.dbpl_words.proofs.noting.note_pieces.Given as goal
 
 abbrev pub invariant-loop-piece : goal.invariant-loop-piece
 invariant-loop-piece g l = record {

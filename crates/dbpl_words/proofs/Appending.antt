@@ -1,9 +1,10 @@
 -- Bytes that are said piece after piece: a front of a piece behind what came before it is a front of the whole.
-use Rattle.std.proofs.Common.{◌≡◌, ◌∙◌, ℕ, ◌+◌, ◌<◌, ◌≤◌, List, ◌∷◌, ◌++◌, ap, append_assoc, add-one, arith, drop, get_or, length, map, min, sym, take}
+use Rattle.std.proofs.Common.{◌≡◌, ◌∙◌, ℕ, ◌+◌, ◌<◌, ◌≤◌, List, [], ◌∷◌, ◌++◌, ap, add-one, arith, drop, get_or, length, map, min, sym, take}
 use Rattle.std.proofs.Math.Seq.{drop-cons, take-append-add}
 use Rattle.std.proofs.lemmas.Grind.{flat_map-append}
-use Rattle.std.proofs.lemmas.List.{map-append, take-append-drop, take-append-le, take_min}
+use Rattle.std.proofs.lemmas.List.{append-nil, map-append, take-append-drop, take-append-le, take_min}
 use Rattle.std.specs.List.{flat_map}
+use Rattle.dbpl_world.proofs.Replays.{more-more}
 use Rattle.dbpl_world.specs.History.{Event, History, more}
 
 -- some front of the whole is what came before and a front of the piece
@@ -13,9 +14,9 @@ front_of_whole before piece rest n =
     let fits : k ≤ length piece = omega arith in
     (length before + k, take-append-add before (piece ++ rest) k ∙ ap (λ xs. before ++ xs) (take-append-le k piece rest fits ∙ take_min n piece))
 
-pub more-more : (h : History) (first second : List Event) → more (more h first) second ≡ more h (first ++ second)
-more-more h first second =
-    ap (λ (events : List Event). let joined : History = record { start = h.start; events = events } in joined) (append_assoc h.events first second)
+-- nothing more has happened
+pub more-nil : (h : History) → h ≡ more h []
+more-nil h = ap (λ (events : List Event). let same : History = record { start = h.start; events = events } in same) (sym (append-nil h.events))
 
 -- Bytes of one kind, said or noted, and then bytes behind them are the bytes of both.
 pub both : (kind : ℕ → Event) (start at end : History) (first second : List ℕ) →

@@ -3,9 +3,9 @@ use Rattle.std.proofs.Common.{ℕ, List, ◌+◌, [], drop, get_or, take}
 use Rattle.std.proofs.lemmas.Result.{err_from_is_err_and}
 use Rattle.std.specs.Borrow.{Bor}
 use Rattle.std.specs.List.{flat_map}
-use Rattle.dbpl_tool.proofs.Appending.{flat_map-at_index, front}
+use Rattle.dbpl_words.proofs.Appending.{flat_map-at_index, front}
 use Rattle.dbpl_world.specs.History.{Noted}
-use Rattle.dbpl_tool.proofs.noting.note_pieces.Goals as goal
+use Rattle.dbpl_words.proofs.noting.note_pieces.Goals as goal
 
 pub returns-in_err-note_all-clause-err : goal.returns-in_err-note_all-clause-err
 returns-in_err-note_all-clause-err g c = λ told.
