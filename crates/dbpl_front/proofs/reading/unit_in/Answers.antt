@@ -3,7 +3,7 @@ use Rattle.std.proofs.Common.{List, refl, subst, sym}
 use Rattle.std.proofs.lemmas.Result.{err_from_is_err_and}
 use Rattle.dbpl_base.specs.declared.token.Token.{Token}
 use Rattle.dbpl_front.proofs.CauseLaw.{parse_unspelt, scan_unspelt, unspelt_no_unit}
-use Rattle.dbpl_front.specs.Errors.{of_parse, of_scan}
+use Rattle.dbpl_front.specs.Errors.{of_scan}
 use Rattle.dbpl_scan.specs.Comments.{Scans}
 use Rattle.dbpl_front.proofs.reading.unit_in.Goals as goal
 
