@@ -33,7 +33,7 @@ impl Display for Answer {
 }
 
 /// What the scanner, the parser and the copies of trees make of this text.
-pub fn answer_to(alloc: Global, text: &str) -> Answer {
+pub(crate) fn answer_to(alloc: Global, text: &str) -> Answer {
     if text.len() > SOURCE_BYTES as usize {
         return Answer::TooLong;
     }
