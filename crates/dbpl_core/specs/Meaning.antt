@@ -83,8 +83,9 @@ relation_named name database = option_map_or (λ bound. bound.rel) (bound_named 
 
 -- the database with this relation in the variable of this name
 abbrev pub with_named : List ℕ → Value → List Bound → List Bound
-with_named name relation database =
-    map (λ bound. if is_same_name bound.name name then holding relation bound else bound) database
+with_named name relation [] = []
+with_named name relation (bound ∷ others) =
+    if is_same_name bound.name name then holding relation bound ∷ others else bound ∷ with_named name relation others
 
 unfoldable pub reads : List ℕ → Doing Value
 reads name = λ state. Done (relation_named name state.database) state

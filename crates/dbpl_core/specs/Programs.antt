@@ -5,7 +5,7 @@ use Rattle.dbpl_core.specs.declared.insertion.Insertion.{Insertion}
 use Rattle.dbpl_core.specs.declared.stored_program.StoredProgram.{StoredProgram}
 use Rattle.dbpl_database.specs.Databases.{is_kept}
 use Rattle.dbpl_relation.specs.Relations.{is_relation_type}
-use Rattle.dbpl_value.specs.Types.{element_of, fields_of, is_in}
+use Rattle.dbpl_value.specs.Types.{element_of, fields_of, is_in, is_record}
 use Rattle.dbpl_value.specs.declared.db_type.DbType.{DbType, DbType-F, out-DbType}
 use Rattle.dbpl_value.specs.declared.db_type.DbType.TheOpen as kinds
 use Rattle.dbpl_value.specs.declared.field.Field.{Field}
@@ -22,7 +22,8 @@ is_cardinal_field field = is_cardinal field.kind
 
 -- a relation type whose records have fields of type CARDINAL alone
 abbrev pub is_flat : DbType → Bool
-is_flat t = is_relation_type t && list_all is_cardinal_field (fields_of (element_of t))
+is_flat t =
+    is_relation_type t && is_record (element_of t) && list_all is_cardinal_field (fields_of (element_of t))
 
 abbrev pub is_in_cardinal : ℤ → Bool
 is_in_cardinal = is_in (record { least = pos 0; greatest = pos 4294967295 })

@@ -1,9 +1,9 @@
 //! Whether a program is of the form that is built so far.
-ghost use Rattle.std.specs.Prelude.{◌≡◌, IsTrue};
+ghost use Rattle.std.specs.Prelude.{◌≡◌, ◌&&◌, IsTrue};
 ghost use Rattle.std.specs.List.{list_all};
 ghost use Rattle.dbpl_core.specs.Programs.{are_rows as are_rows_of, is_cardinal as is_cardinal_type, is_cardinal_field, is_flat as is_flat_type, is_in_cardinal, is_row as is_row_of, is_small_program};
 ghost use Rattle.dbpl_database.specs.Databases.{is_kept};
-ghost use Rattle.dbpl_value.specs.Types.{element_of as element_of_type, fields_of as fields_of_type};
+ghost use Rattle.dbpl_value.specs.Types.{element_of as element_of_type, fields_of as fields_of_type, is_record};
 
 use crate::{Insertion, StoredProgram};
 use dbpl_base::List;
@@ -22,7 +22,16 @@ fn is_flat(t: &DbType) -> bool
     ensures { result ≡ is_flat_type t.now }
 {
     match t {
-        DbType::Rel(_, record) => are_cardinals(fields_of(record.get())),
+        DbType::Rel(_, record) => is_flat_record(record.get()),
+        _ => false,
+    }
+}
+
+fn is_flat_record(t: &DbType) -> bool
+    ensures { result ≡ (is_record t.now && list_all is_cardinal_field (fields_of_type t.now)) }
+{
+    match t {
+        DbType::Rec(fields) => are_cardinals(fields.as_slice()),
         _ => false,
     }
 }

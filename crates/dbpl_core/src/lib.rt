@@ -4,6 +4,7 @@
 mod action;
 mod forms;
 mod insertion;
+mod laws;
 mod run_err;
 mod set_err;
 mod sets;
@@ -14,6 +15,9 @@ mod trap;
 pub use action::Action;
 pub use forms::is_small;
 pub use insertion::Insertion;
+pub use laws::{
+    events_join, meaning_by_statements, meaning_is_steady, meaning_is_whole, variable_has_one_place,
+};
 pub use run_err::RunErr;
 pub use set_err::SetErr;
 pub use sets::set_of;
