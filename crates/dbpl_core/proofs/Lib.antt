@@ -1,6 +1,7 @@
 pub mod Adding
 pub mod Databases
 pub mod Events
+pub mod Kept
 pub mod Programs
 pub mod Rows
 pub mod Sizes

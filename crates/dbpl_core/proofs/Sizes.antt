@@ -25,13 +25,13 @@ use Rattle.dbpl_value.specs.declared.value.Value.{Value}
 -- ---- how many fields there are
 
 -- a type with what is computed of it
-abbrev with_types : DbType → DbType × List DbType
+abbrev pub with_types : DbType → DbType × List DbType
 with_types t = (t, inside t)
 
-abbrev field_types : Field → Field × List DbType
+abbrev pub field_types : Field → Field × List DbType
 field_types field = (field, inside field.kind)
 
-inside-out : (t : DbType) → inside t ≡ inside_level (map-DbType DbType Field (DbType × List DbType) (Field × List DbType) with_types field_types (out-DbType t))
+pub inside-out : (t : DbType) → inside t ≡ inside_level (map-DbType DbType Field (DbType × List DbType) (Field × List DbType) with_types field_types (out-DbType t))
 inside-out t = by_parts-out (List DbType) inside_level t
 
 element_level-inside :
@@ -49,7 +49,7 @@ element_level-inside t (kinds.Arr index element) h = cc
 element_level-inside t (kinds.Rec fields) h = cc
 
 -- the record type of a relation type stands inside it
-inside-relation : (t : DbType) → is_relation_type t ≡ true → inside t ≡ element_of t ∷ inside (element_of t)
+pub inside-relation : (t : DbType) → is_relation_type t ≡ true → inside t ≡ element_of t ∷ inside (element_of t)
 inside-relation t h = inside-out t ∙ element_level-inside t (out-DbType t) h
 
 -- and has few scalars
@@ -69,19 +69,19 @@ few_scalars t typed kind =
 abbrev with_scalars : DbType → DbType × ℕ
 with_scalars t = (t, scalars_of t)
 
-abbrev field_scalars : Field → Field × ℕ
+abbrev pub field_scalars : Field → Field × ℕ
 field_scalars field = (field, scalars_of field.kind)
 
-scalars_of-Card : scalars_of types.Card ≡ 1
+pub scalars_of-Card : scalars_of types.Card ≡ 1
 scalars_of-Card = by_parts-out ℕ scalars_level types.Card ∙ rw outs-Card refl
 
-scalars_of-Rec : (fields : List Field) → scalars_of (types.Rec fields) ≡ scalars_level (kinds.Rec (map field_scalars fields))
+pub scalars_of-Rec : (fields : List Field) → scalars_of (types.Rec fields) ≡ scalars_level (kinds.Rec (map field_scalars fields))
 scalars_of-Rec fields = by_parts-out ℕ scalars_level (types.Rec fields) ∙ rw (outs-Rec fields) refl
 
 one_scalar : (field : Field) → is_cardinal_field field ≡ true → scalars_of field.kind ≡ 1
 one_scalar field h = ap scalars_of (is_Card field.kind h) ∙ scalars_of-Card
 
-each_one :
+pub each_one :
     (fields : List Field) → list_all is_cardinal_field fields ≡ true →
     sum (map (λ (other : Field × ℕ). other.1) (map field_scalars fields)) ≡ length fields
 each_one [] h = refl
@@ -127,7 +127,7 @@ four_each (field ∷ fields) (part ∷ parts) h =
 le-true : (a b : ℕ) → nat_le a b ≡ true → a ≤ b
 le-true a b h = grind (arith, nat_tests)
 
-true-le : (a b : ℕ) → a ≤ b → nat_le a b ≡ true
+pub true-le : (a b : ℕ) → a ≤ b → nat_le a b ≡ true
 true-le a b h = grind (arith, nat_tests)
 
 record-small :

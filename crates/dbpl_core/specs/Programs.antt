@@ -1,5 +1,5 @@
 -- Which programs are of the form that is built so far.
-use Rattle.std.specs.Prelude.{ℤ, pos, Bool, true, false, ◌&&◌, nat_eq, List, length}
+use Rattle.std.specs.Prelude.{ℕ, ℤ, pos, Bool, true, false, ◌&&◌, nat_eq, List, [], ◌∷◌, length, map}
 use Rattle.std.specs.List.{list_all}
 use Rattle.dbpl_core.specs.declared.insertion.Insertion.{Insertion}
 use Rattle.dbpl_core.specs.declared.stored_program.StoredProgram.{StoredProgram}
@@ -8,6 +8,7 @@ use Rattle.dbpl_relation.specs.Relations.{is_relation_type}
 use Rattle.dbpl_value.specs.Types.{element_of, fields_of, is_in, is_record}
 use Rattle.dbpl_value.specs.declared.db_type.DbType.{DbType, DbType-F, out-DbType}
 use Rattle.dbpl_value.specs.declared.db_type.DbType.TheOpen as kinds
+use Rattle.dbpl_value.specs.declared.db_type.DbType.TheVariants as types
 use Rattle.dbpl_value.specs.declared.field.Field.{Field}
 
 abbrev pub is_cardinal_level : {X Y : Type 0} → DbType-F X Y → Bool
@@ -19,6 +20,13 @@ is_cardinal t = is_cardinal_level (out-DbType t)
 
 abbrev pub is_cardinal_field : Field → Bool
 is_cardinal_field field = is_cardinal field.kind
+
+abbrev pub cardinal_field : List ℕ → Field
+cardinal_field name = record { name = name; kind = types.Card }
+
+-- RELATION key OF RECORD with fields of these names and the type CARDINAL END
+abbrev pub flat_type : List ℕ → List (List ℕ) → DbType
+flat_type key names = types.Rel (key ∷ []) (types.Rec (map cardinal_field names))
 
 -- a relation type whose records have fields of type CARDINAL alone
 abbrev pub is_flat : DbType → Bool

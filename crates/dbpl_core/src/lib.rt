@@ -16,7 +16,8 @@ pub use action::Action;
 pub use forms::is_small;
 pub use insertion::Insertion;
 pub use laws::{
-    events_join, meaning_by_statements, meaning_is_steady, meaning_is_whole, variable_has_one_place,
+    events_join, flat_type_is_kept, meaning_by_statements, meaning_is_steady, meaning_is_whole,
+    variable_has_one_place,
 };
 pub use run_err::RunErr;
 pub use set_err::SetErr;

@@ -48,9 +48,9 @@ fn insertion(alloc: Global, line: u32, rows: Rows) -> Result<Insertion, Memory> 
 
 fn insertions(alloc: Global, sets: &[Rows]) -> Result<List<Insertion>, Memory> {
     let mut made = List::new(alloc);
-    let mut line = 0;
+    let mut line: u32 = 0;
     for rows in sets {
-        line += 1;
+        line = line.saturating_add(1);
         made.push(insertion(alloc, line, rows)?)?;
     }
     Ok(made)
