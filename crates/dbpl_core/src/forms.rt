@@ -54,7 +54,9 @@ fn is_cardinal(t: &DbType) -> bool
 fn are_all_rows(t: &DbType, insertions: &[Insertion]) -> bool
     ensures { result ≡ list_all (are_rows_of t.now) insertions.now }
 {
-    insertions.iter().all(|insertion| are_rows(t, insertion.rows.as_slice()))
+    insertions
+        .iter()
+        .all(|insertion| are_rows(t, insertion.rows.as_slice()))
 }
 
 fn are_rows(t: &DbType, rows: &[List<i64>]) -> bool
@@ -74,5 +76,6 @@ fn is_row(fields: &[Field], row: &[i64]) -> bool
 fn are_numbers(row: &[i64]) -> bool
     ensures { result ≡ list_all is_in_cardinal row.now }
 {
-    row.iter().all(|number| 0 <= *number && *number <= i64::from(u32::MAX))
+    row.iter()
+        .all(|number| 0 <= *number && *number <= i64::from(u32::MAX))
 }

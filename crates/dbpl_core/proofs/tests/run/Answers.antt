@@ -10,9 +10,9 @@ is_small-requires c =
     let b = c.in_ok-name.field-0 in
     record {
       kept = rw (c.field_of.ensures.name, c.field_of.ensures.kind) (
-      first_so (is_kept b.name b.kind) (is_of b.kind b.rel)
-      (first_so (is_kept b.name b.kind && is_of b.kind b.rel) (are_small b.kind b.rel) c.in_ok-name.ensures)
-      );
+          first_so (is_kept b.name b.kind) (is_of b.kind b.rel)
+          (first_so (is_kept b.name b.kind && is_of b.kind b.rel) (are_small b.kind b.rel) c.in_ok-name.ensures)
+          );
     }
 
 pub transacted-requires-clause-relation : goal.transacted-requires-clause-relation
