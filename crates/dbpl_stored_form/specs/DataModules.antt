@@ -45,12 +45,12 @@ record_of t = record_level (out-TypeTree t)
 
 -- RELATION key OF R, by its key
 abbrev pub key_level : {T : Type 0} → List ℕ → TypeTree-F T → Option (List ℕ)
-key_level record (types.Relation place keys element) =
-    if is_empty keys.others && is_plain record element then Some keys.first.name else None
-key_level record _ = None
+key_level element (types.Relation place keys qual) =
+    if is_empty keys.others && is_plain element qual then Some keys.first.name else None
+key_level element _ = None
 
 abbrev pub key_of : List ℕ → TypeTree → Option (List ℕ)
-key_of record t = key_level record (out-TypeTree t)
+key_of element t = key_level element (out-TypeTree t)
 
 -- ---- declarations
 
@@ -60,10 +60,10 @@ is_variable relation v = is_empty v.names.others && is_type_name relation v.kind
 
 -- R = RECORD .. END ; S = RELATION .. OF R ; and v : S ;
 abbrev pub declared_by : List ℕ → TypeDecl → TypeDecl → VarDecl → Option Schema
-declared_by module r s v =
+declared_by unit r s v =
     if is_variable s.name.name v
     then option_and_then (λ fields. option_map (λ key. record {
-      module = module;
+      unit = unit;
       element = r.name.name;
       relation = s.name.name;
       variable = v.names.first.name;
@@ -73,14 +73,14 @@ declared_by module r s v =
     else None
 
 abbrev pub parts_declare : List ℕ → List TypeDecl → List VarDecl → Option Schema
-parts_declare module (r ∷ s ∷ []) (v ∷ []) = declared_by module r s v
-parts_declare module types variables = None
+parts_declare unit (r ∷ s ∷ []) (v ∷ []) = declared_by unit r s v
+parts_declare unit types variables = None
 
 -- one part of types, and behind it one of variables
 abbrev pub declared_in : List ℕ → List Common → Option Schema
-declared_in module (commons.Plain (plain.Type place types) ∷ commons.Plain (plain.Var other variables) ∷ []) =
-    parts_declare module types variables
-declared_in module items = None
+declared_in unit (commons.Plain (plain.Type place types) ∷ commons.Plain (plain.Var other variables) ∷ []) =
+    parts_declare unit types variables
+declared_in unit items = None
 
 -- ---- the relation variable
 
@@ -92,7 +92,7 @@ kind_of schema = kinds.Rel (schema.key ∷ []) (kinds.Rec (map cardinal_field sc
 
 -- its module's name and its own, joined by a full stop
 abbrev pub joined_name : Schema → List ℕ
-joined_name schema = schema.module ++ 46 ∷ schema.variable
+joined_name schema = schema.unit ++ 46 ∷ schema.variable
 
 -- the relation variable, by the name under which it is stored
 abbrev pub variable_of : Schema → Field

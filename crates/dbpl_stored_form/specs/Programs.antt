@@ -53,7 +53,7 @@ transaction_in declarations = option_and_then (passing is_transaction) (routine_
 -- the name is given twice, and is neither InOut nor that of the database module
 abbrev pub is_titled : Schema → Program → Bool
 is_titled schema m =
-    bytes_eq m.end_name.name m.name.name && not (has_name in_out m.name) && not (has_name schema.module m.name)
+    bytes_eq m.end_name.name m.name.name && not (has_name in_out m.name) && not (has_name schema.unit m.name)
 
 -- no name is declared twice, and the program imports none that is its own
 abbrev pub are_sound_names : Program → List ℕ → Bool
@@ -88,4 +88,4 @@ program_over d m = option_and_then (λ schema. program_of schema m) (schema_of d
 -- THE program that a database module and a program module are, if they are of the form
 unfoldable pub stored_of : Unit → Unit → Option StoredProgram
 stored_of (units.Data d) (units.Program m) = program_over d m
-stored_of data program = None
+stored_of database program = None

@@ -52,12 +52,12 @@ fn record_of(alloc: Global, kind: &TypeTree) -> Result<Option<List<Name>>, Memor
 }
 
 /// The key of the relation type over this record type that this is, if it has one key.
-fn key_of<'a>(kind: &'a TypeTree, record: &[u8]) -> Option<&'a Name>
-    ensures { option_copied result ≡ spec.key_of record.now kind.now }
+fn key_of<'a>(kind: &'a TypeTree, element: &[u8]) -> Option<&'a Name>
+    ensures { option_copied result ≡ spec.key_of element.now kind.now }
 {
     match kind {
-        TypeTree::Relation(_, keys, element)
-            if matches!(keys.others.as_slice(), []) && is_plain(element, record) => {
+        TypeTree::Relation(_, keys, over)
+            if matches!(keys.others.as_slice(), []) && is_plain(over, element) => {
             Some(&keys.first.name)
         }
         _ => None,
@@ -73,25 +73,25 @@ fn is_variable(decl: &VarDecl, kind: &Name) -> bool
 
 fn declared_by(
     alloc: Global,
-    module: &Name,
-    record: &TypeDecl,
+    unit: &Name,
+    element: &TypeDecl,
     relation: &TypeDecl,
     variable: &VarDecl,
 ) -> Result<Option<Schema>, Memory>
-    ensures { IfOk result (λ schema. schema ≡ spec.declared_by module.now record.now relation.now variable.now) }
+    ensures { IfOk result (λ schema. schema ≡ spec.declared_by unit.now element.now relation.now variable.now) }
 {
     if !is_variable(variable, &relation.name.name) {
         return Ok(None);
     }
-    let Some(key) = key_of(&relation.kind, record.name.name.as_bytes()) else {
+    let Some(key) = key_of(&relation.kind, element.name.name.as_bytes()) else {
         return Ok(None);
     };
-    let Some(fields) = record_of(alloc, &record.kind)? else {
+    let Some(fields) = record_of(alloc, &element.kind)? else {
         return Ok(None);
     };
     Ok(Some(Schema {
-        module: module.copy(alloc)?,
-        element: record.name.name.copy(alloc)?,
+        unit: unit.copy(alloc)?,
+        element: element.name.name.copy(alloc)?,
         relation: relation.name.name.copy(alloc)?,
         variable: variable.names.first.name.copy(alloc)?,
         key: key.copy(alloc)?,
@@ -101,26 +101,26 @@ fn declared_by(
 
 fn parts_declare(
     alloc: Global,
-    module: &Name,
+    unit: &Name,
     types: &[TypeDecl],
     variables: &[VarDecl],
 ) -> Result<Option<Schema>, Memory>
-    ensures { IfOk result (λ schema. schema ≡ spec.parts_declare module.now types.now variables.now) }
+    ensures { IfOk result (λ schema. schema ≡ spec.parts_declare unit.now types.now variables.now) }
 {
     match (types, variables) {
-        ([record, relation], [variable]) => declared_by(alloc, module, record, relation, variable),
+        ([element, relation], [variable]) => declared_by(alloc, unit, element, relation, variable),
         _ => Ok(None),
     }
 }
 
-fn declared_in(alloc: Global, module: &Name, items: &[Common]) -> Result<Option<Schema>, Memory>
-    ensures { IfOk result (λ schema. schema ≡ spec.declared_in module.now items.now) }
+fn declared_in(alloc: Global, unit: &Name, items: &[Common]) -> Result<Option<Schema>, Memory>
+    ensures { IfOk result (λ schema. schema ≡ spec.declared_in unit.now items.now) }
 {
     match items {
         [
             Common::Plain(PlainDecl::Type(_, types)),
             Common::Plain(PlainDecl::Var(_, variables)),
-        ] => { parts_declare(alloc, module, types.as_slice(), variables.as_slice()) }
+        ] => { parts_declare(alloc, unit, types.as_slice(), variables.as_slice()) }
         _ => Ok(None),
     }
 }
@@ -144,12 +144,12 @@ fn is_sound(alloc: Global, schema: &Schema) -> Result<bool, Memory>
 
 /// Whether all but the declarations is as the form wants it.
 #[tactic(auto, unfolding(dbpl_tree::specs::Words::in_out))]
-fn has_frame(data: &DataUnit) -> bool
-    ensures { result ≡ spec.has_frame data.now }
+fn has_frame(database: &DataUnit) -> bool
+    ensures { result ≡ spec.has_frame database.now }
 {
-    has_name(&data.end_name, data.name.name.as_bytes())
-        && !has_name(&data.name, b"InOut")
-        && matches!(data.imports.as_slice(), [])
+    has_name(&database.end_name, database.name.name.as_bytes())
+        && !has_name(&database.name, b"InOut")
+        && matches!(database.imports.as_slice(), [])
 }
 
 fn sound(alloc: Global, schema: Schema) -> Result<Option<Schema>, Memory>
@@ -163,13 +163,13 @@ fn sound(alloc: Global, schema: Schema) -> Result<Option<Schema>, Memory>
 }
 
 /// What a database module of the form declares.
-pub(crate) fn schema_of(alloc: Global, data: &DataUnit) -> Result<Option<Schema>, Memory>
-    ensures { IfOk result (λ schema. schema ≡ spec.schema_of data.now) }
+pub(crate) fn schema_of(alloc: Global, database: &DataUnit) -> Result<Option<Schema>, Memory>
+    ensures { IfOk result (λ schema. schema ≡ spec.schema_of database.now) }
 {
-    if !has_frame(data) {
+    if !has_frame(database) {
         return Ok(None);
     }
-    match declared_in(alloc, &data.name.name, data.items.as_slice())? {
+    match declared_in(alloc, &database.name.name, database.items.as_slice())? {
         Some(schema) => sound(alloc, schema),
         None => Ok(None),
     }

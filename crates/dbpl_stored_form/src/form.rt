@@ -58,7 +58,7 @@ fn is_titled(schema: &Schema, program: &Program) -> bool
 {
     has_name(&program.end_name, program.name.name.as_bytes())
         && !has_name(&program.name, b"InOut")
-        && !has_name(&program.name, schema.module.as_bytes())
+        && !has_name(&program.name, schema.unit.as_bytes())
 }
 
 fn stands_in(name: &Name, names: &[Name]) -> bool
@@ -136,12 +136,12 @@ fn program_of(
 
 fn program_over(
     alloc: Global,
-    data: &DataUnit,
+    database: &DataUnit,
     program: &Program,
 ) -> Result<Option<StoredProgram>, Memory>
-    ensures { IfOk result (λ found. found ≡ spec.program_over data.now program.now) }
+    ensures { IfOk result (λ found. found ≡ spec.program_over database.now program.now) }
 {
-    match schema_of(alloc, data)? {
+    match schema_of(alloc, database)? {
         Some(schema) => program_of(alloc, &schema, program),
         None => Ok(None),
     }
@@ -149,11 +149,11 @@ fn program_over(
 
 /// The program that a database module and a program module are, if they are of the form.
 #[tactic(auto, unfolding(crate::specs::Programs::stored_of))]
-pub fn stored(alloc: Global, data: &Unit, program: &Unit) -> Result<Option<StoredProgram>, Memory>
-    ensures { IfOk result (λ stored. stored ≡ spec.stored_of data.now program.now) }
+pub fn stored(alloc: Global, database: &Unit, program: &Unit) -> Result<Option<StoredProgram>, Memory>
+    ensures { IfOk result (λ stored. stored ≡ spec.stored_of database.now program.now) }
 {
-    match (data, program) {
-        (Unit::Data(data), Unit::Program(program)) => program_over(alloc, data, program),
+    match (database, program) {
+        (Unit::Data(database), Unit::Program(program)) => program_over(alloc, database, program),
         _ => Ok(None),
     }
 }

@@ -22,19 +22,19 @@ fn stands_in(idents: &Idents, name: &[u8]) -> bool
 }
 
 /// Whether the import brings this name of this module.
-fn brings(import: &Import, module: &[u8], name: &[u8]) -> bool
-    ensures { result ≡ spec.brings module.now name.now import.now }
+fn brings(import: &Import, unit: &[u8], name: &[u8]) -> bool
+    ensures { result ≡ spec.brings unit.now name.now import.now }
 {
     match import {
-        Import::From(_, from, names) => has_name(from, module) && stands_in(names, name),
+        Import::From(_, from, names) => has_name(from, unit) && stands_in(names, name),
         Import::Whole(_, _) => false,
     }
 }
 
-pub(crate) fn is_imported(imports: &[Import], module: &[u8], name: &[u8]) -> bool
-    ensures { result ≡ spec.is_imported module.now name.now imports.now }
+pub(crate) fn is_imported(imports: &[Import], unit: &[u8], name: &[u8]) -> bool
+    ensures { result ≡ spec.is_imported unit.now name.now imports.now }
 {
-    imports.iter().any(|import| brings(import, module, name))
+    imports.iter().any(|import| brings(import, unit, name))
 }
 
 /// A name that the database module declares.
@@ -77,9 +77,9 @@ fn is_line(schema: &Schema, import: &Import) -> bool
     ensures { result ≡ spec.is_line schema.now import.now }
 {
     match import {
-        Import::From(_, module, names) => {
-            (has_name(module, schema.module.as_bytes()) && are_declared(schema, names))
-                || (has_name(module, b"InOut") && are_printers(names))
+        Import::From(_, from, names) => {
+            (has_name(from, schema.unit.as_bytes()) && are_declared(schema, names))
+                || (has_name(from, b"InOut") && are_printers(names))
         }
         Import::Whole(_, _) => false,
     }
@@ -95,11 +95,11 @@ fn are_all_lines(schema: &Schema, imports: &[Import]) -> bool
 pub(crate) fn are_lines(schema: &Schema, imports: &[Import]) -> bool
     ensures { result ≡ spec.are_lines schema.now imports.now }
 {
-    let module = schema.module.as_bytes();
+    let unit = schema.unit.as_bytes();
     are_all_lines(schema, imports)
-        && is_imported(imports, module, schema.element.as_bytes())
-        && is_imported(imports, module, schema.relation.as_bytes())
-        && is_imported(imports, module, schema.variable.as_bytes())
+        && is_imported(imports, unit, schema.element.as_bytes())
+        && is_imported(imports, unit, schema.relation.as_bytes())
+        && is_imported(imports, unit, schema.variable.as_bytes())
 }
 
 fn names_in(import: &Import) -> &Idents
@@ -107,7 +107,7 @@ fn names_in(import: &Import) -> &Idents
 {
     match import {
         Import::From(_, _, names) => names,
-        Import::Whole(_, modules) => modules,
+        Import::Whole(_, units) => units,
     }
 }
 

@@ -1,5 +1,5 @@
 //! The statements of a transaction.
-ghost use Rattle.std.specs.Prelude.{◌≡◌, if◌then◌else◌, IfOk, None, Some};
+ghost use Rattle.std.specs.Prelude.{◌≡◌, ◌∷◌, if◌then◌else◌, IfOk, None, Some};
 ghost use Rattle.dbpl_stored_form.specs.Lists.{all_of, joined};
 ghost use Rattle.dbpl_stored_form.specs.Statements as spec;
 

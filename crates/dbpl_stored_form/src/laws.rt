@@ -8,5 +8,5 @@ ghost use Rattle.dbpl_tree.specs.declared.unit.Unit.{Unit as Tree};
 /// A program of the form is one that can be run: its relation variable can be kept, and each row has a number of CARDINAL
 /// for each field.
 pub fn stored_is_small()
-    ensures { (data program : Tree) (stored : StoredProgram) → stored_of data program ≡ Some stored → IsTrue (is_small_program stored) }
+    ensures { (database program : Tree) (stored : StoredProgram) → stored_of database program ≡ Some stored → IsTrue (is_small_program stored) }
 {}

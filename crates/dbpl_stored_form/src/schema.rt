@@ -4,7 +4,7 @@ use dbpl_base::{List, Name};
 #[derive(Debug, PartialEq, Eq, Drop)]
 pub struct Schema {
     /// The name of the module.
-    pub module: Name,
+    pub unit: Name,
     /// The name of the record type.
     pub element: Name,
     /// The name of the relation type.

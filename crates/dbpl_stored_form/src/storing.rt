@@ -32,7 +32,7 @@ pub(crate) fn can_be_kept(alloc: Global, schema: &Schema) -> Result<bool, Memory
 fn is_kept_name(schema: &Schema) -> bool
     ensures { result ≡ is_kept_name_of (spec.joined_name schema.now) }
 {
-    let module = schema.module.as_bytes();
+    let module = schema.unit.as_bytes();
     let variable = schema.variable.as_bytes();
     is_identifier(module)
         && is_identifier(variable)
@@ -101,7 +101,7 @@ pub(crate) fn variable_of(alloc: Global, schema: &Schema) -> Result<Field, Memor
 fn joined_name(alloc: Global, schema: &Schema) -> Result<Name, Memory>
     ensures { IfOk result (λ name. name ≡ spec.joined_name schema.now) }
 {
-    let mut bytes = Vec::from_slice(alloc, schema.module.as_bytes())?;
+    let mut bytes = Vec::from_slice(alloc, schema.unit.as_bytes())?;
     bytes.push(b'.')?;
     bytes.extend_from_slice(schema.variable.as_bytes())?;
     Ok(Name::from_vec(bytes))
