@@ -80,13 +80,13 @@ pub joined-identifiers : (front back : List ℕ) →
     is_joined_name (front ++ 46 ∷ back) ≡ (is_identifier front && is_identifier back)
 joined-identifiers front back = by_front (list_all is_no_stop front) refl
   where
-    abbrev whole : List ℕ
+    whole : List ℕ
     whole = front ++ 46 ∷ back
 
     by_front : (b : Bool) → list_all is_no_stop front ≡ b → is_joined_name whole ≡ (is_identifier front && is_identifier back)
     by_front true h =
         let before : take_while is_no_stop whole ≡ front =
-            ap (λ (n : ℕ). take n whole) (front-len front back h) ∙ take-append_seam front (46 ∷ back) in
+        ap (λ (n : ℕ). take n whole) (front-len front back h) ∙ take-append_seam front (46 ∷ back) in
         ap (λ (first : List ℕ). is_identifier first && is_identifier (drop (length first + 1) whole)) before
         ∙ ap (λ (rest : List ℕ). is_identifier front && is_identifier rest) (rest-of front back)
     by_front false h =

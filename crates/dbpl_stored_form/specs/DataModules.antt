@@ -62,14 +62,14 @@ is_variable relation v = is_empty v.names.others && is_type_name relation v.kind
 abbrev pub declared_by : List ℕ → TypeDecl → TypeDecl → VarDecl → Option Schema
 declared_by unit r s v =
     if is_variable s.name.name v
-    then option_and_then (λ fields. option_map (λ key. record {
+    then option_and_then (λ key. option_map (λ fields. record {
       unit = unit;
       element = r.name.name;
       relation = s.name.name;
       variable = v.names.first.name;
       key = key;
       fields = fields;
-    }) (key_of r.name.name s.kind)) (record_of r.kind)
+    }) (record_of r.kind)) (key_of r.name.name s.kind)
     else None
 
 abbrev pub parts_declare : List ℕ → List TypeDecl → List VarDecl → Option Schema

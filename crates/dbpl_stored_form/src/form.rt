@@ -149,7 +149,11 @@ fn program_over(
 
 /// The program that a database module and a program module are, if they are of the form.
 #[tactic(auto, unfolding(crate::specs::Programs::stored_of))]
-pub fn stored(alloc: Global, database: &Unit, program: &Unit) -> Result<Option<StoredProgram>, Memory>
+pub fn stored(
+    alloc: Global,
+    database: &Unit,
+    program: &Unit,
+) -> Result<Option<StoredProgram>, Memory>
     ensures { IfOk result (λ stored. stored ≡ spec.stored_of database.now program.now) }
 {
     match (database, program) {

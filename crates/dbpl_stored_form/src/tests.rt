@@ -13,6 +13,7 @@ use std::alloc::Global;
 use std::test::Fail;
 
 type Text = &'static [u8];
+
 type Texts = &'static [Text];
 
 /// A name of 127 letters, with which `D.` has 129 bytes.
@@ -67,7 +68,10 @@ fn good() -> Sketch {
         variable_type: b"Subs",
         program: b"M",
         program_end: b"M",
-        imports: &[(b"D", &[b"Sub", b"Subs", b"r"]), (b"InOut", &[b"WriteString", b"WriteLn"])],
+        imports: &[
+            (b"D", &[b"Sub", b"Subs", b"r"]),
+            (b"InOut", &[b"WriteString", b"WriteLn"]),
+        ],
         word: RoutineWord::Transaction,
         transaction: b"T",
         transaction_end: b"T",
@@ -76,7 +80,11 @@ fn good() -> Sketch {
         set: b"Subs",
         row: b"Sub",
         sets: &[&[&[1, 5], &[2, 6]], &[&[4294967295, 0]]],
-        body: &[Call::Name(b"T"), Call::WriteString(b"done"), Call::Name(b"WriteLn")],
+        body: &[
+            Call::Name(b"T"),
+            Call::WriteString(b"done"),
+            Call::Name(b"WriteLn"),
+        ],
     }
 }
 
@@ -366,7 +374,9 @@ fn is_subs(kind: &DbType) -> bool {
     };
     match fields_of(record.get()) {
         [position, quantity] => {
-            position.name.is(b"pos") && quantity.name.is(b"qty") && are_names(keys_of(kind), &[b"pos"])
+            position.name.is(b"pos")
+                && quantity.name.is(b"qty")
+                && are_names(keys_of(kind), &[b"pos"])
         }
         _ => false,
     }
@@ -407,10 +417,12 @@ fn is_whole(program: &StoredProgram) -> bool {
 #[test]
 fn whole(rt: HostRuntime) -> Result<(), Fail> {
     let alloc = rt.alloc();
-    assert!(rt; match found(alloc, &good()) {
-        Ok(Some(program)) => is_whole(&program),
-        _ => false,
-    });
+    assert!(rt;
+        match found(alloc, &good()) {
+            Ok(Some(program)) => is_whole(&program),
+            _ => false,
+        }
+    );
     Ok(())
 }
 
@@ -418,7 +430,12 @@ fn whole(rt: HostRuntime) -> Result<(), Fail> {
 fn accepted(case: usize) -> Sketch {
     let mut sketch = good();
     match case {
-        0 => sketch.imports = &[(b"InOut", &[b"WriteLn"]), (b"D", &[b"r"]), (b"InOut", &[b"WriteString"]), (b"D", &[b"Subs", b"Sub"])],
+        0 => sketch.imports = &[
+            (b"InOut", &[b"WriteLn"]),
+            (b"D", &[b"r"]),
+            (b"InOut", &[b"WriteString"]),
+            (b"D", &[b"Subs", b"Sub"]),
+        ],
         1 => sketch.groups = &[&[b"qty"], &[b"pos"]],
         2 => sketch.sets = &[&[]],
         3 => sketch.sets = &[],
@@ -437,7 +454,10 @@ fn accepted(case: usize) -> Sketch {
             sketch.element = b"CARDINAL";
             sketch.over = b"CARDINAL";
             sketch.row = b"CARDINAL";
-            sketch.imports = &[(b"D", &[b"CARDINAL", b"Subs", b"r"]), (b"InOut", &[b"WriteString", b"WriteLn"])];
+            sketch.imports = &[
+                (b"D", &[b"CARDINAL", b"Subs", b"r"]),
+                (b"InOut", &[b"WriteString", b"WriteLn"]),
+            ];
         }
     }
     sketch
@@ -447,7 +467,10 @@ fn accepted(case: usize) -> Sketch {
 fn other_forms(rt: HostRuntime) -> Result<(), Fail> {
     let alloc = rt.alloc();
     for case in 0..9 {
-        assert!(rt; matches!(found(alloc, &accepted(case)), Ok(Some(_))), "case {case}");
+        assert!(rt;
+            matches!(found(alloc, &accepted(case)), Ok(Some(_))),
+            "case {case}"
+        );
     }
     Ok(())
 }
@@ -465,23 +488,35 @@ fn refused_database(case: usize) -> Sketch {
         6 => {
             sketch.unit = b"InOut";
             sketch.unit_end = b"InOut";
-            sketch.imports = &[(b"InOut", &[b"Sub", b"Subs", b"r", b"WriteString", b"WriteLn"])];
+            sketch.imports = &[(
+                b"InOut",
+                &[b"Sub", b"Subs", b"r", b"WriteString", b"WriteLn"],
+            )];
         }
         7 => {
             sketch.relation = b"Sub";
             sketch.variable_type = b"Sub";
             sketch.set = b"Sub";
-            sketch.imports = &[(b"D", &[b"Sub", b"r"]), (b"InOut", &[b"WriteString", b"WriteLn"])];
+            sketch.imports = &[
+                (b"D", &[b"Sub", b"r"]),
+                (b"InOut", &[b"WriteString", b"WriteLn"]),
+            ];
         }
         8 => {
             sketch.variable = b"Subs";
             sketch.target = b"Subs";
-            sketch.imports = &[(b"D", &[b"Sub", b"Subs"]), (b"InOut", &[b"WriteString", b"WriteLn"])];
+            sketch.imports = &[
+                (b"D", &[b"Sub", b"Subs"]),
+                (b"InOut", &[b"WriteString", b"WriteLn"]),
+            ];
         }
         _ => {
             sketch.variable = LONG;
             sketch.target = LONG;
-            sketch.imports = &[(b"D", &[b"Sub", b"Subs", LONG]), (b"InOut", &[b"WriteString", b"WriteLn"])];
+            sketch.imports = &[
+                (b"D", &[b"Sub", b"Subs", LONG]),
+                (b"InOut", &[b"WriteString", b"WriteLn"]),
+            ];
         }
     }
     sketch
@@ -510,11 +545,23 @@ fn refused_names(case: usize) -> Sketch {
             sketch.transaction_end = b"WriteLn";
             sketch.body = &[Call::Name(b"WriteLn")];
         }
-        6 => sketch.imports = &[(b"D", &[b"Sub", b"Subs"]), (b"InOut", &[b"WriteString", b"WriteLn"])],
-        7 => sketch.imports = &[(b"D", &[b"Sub", b"Subs", b"r"]), (b"InOut", &[b"WriteString"])],
-        8 => sketch.imports = &[(b"D", &[b"Sub", b"Subs", b"r", b"r"]), (b"InOut", &[b"WriteString", b"WriteLn"])],
+        6 => sketch.imports = &[
+            (b"D", &[b"Sub", b"Subs"]),
+            (b"InOut", &[b"WriteString", b"WriteLn"]),
+        ],
+        7 => sketch.imports = &[
+            (b"D", &[b"Sub", b"Subs", b"r"]),
+            (b"InOut", &[b"WriteString"]),
+        ],
+        8 => sketch.imports = &[
+            (b"D", &[b"Sub", b"Subs", b"r", b"r"]),
+            (b"InOut", &[b"WriteString", b"WriteLn"]),
+        ],
         9 => sketch.imports = &[(b"D", &[b"Sub", b"Subs", b"r", b"WriteLn", b"WriteString"])],
-        _ => sketch.imports = &[(b"D", &[b"Sub", b"Subs", b"r"]), (b"InOut", &[b"WriteString", b"WriteLn", b"Write"])],
+        _ => sketch.imports = &[
+            (b"D", &[b"Sub", b"Subs", b"r"]),
+            (b"InOut", &[b"WriteString", b"WriteLn", b"Write"]),
+        ],
     }
     sketch
 }
@@ -541,7 +588,10 @@ fn refused_statements(case: usize) -> Sketch {
 fn other_databases(rt: HostRuntime) -> Result<(), Fail> {
     let alloc = rt.alloc();
     for case in 0..10 {
-        assert!(rt; matches!(found(alloc, &refused_database(case)), Ok(None)), "case {case}");
+        assert!(rt;
+            matches!(found(alloc, &refused_database(case)), Ok(None)),
+            "case {case}"
+        );
     }
     Ok(())
 }
@@ -550,7 +600,10 @@ fn other_databases(rt: HostRuntime) -> Result<(), Fail> {
 fn other_names(rt: HostRuntime) -> Result<(), Fail> {
     let alloc = rt.alloc();
     for case in 0..11 {
-        assert!(rt; matches!(found(alloc, &refused_names(case)), Ok(None)), "case {case}");
+        assert!(rt;
+            matches!(found(alloc, &refused_names(case)), Ok(None)),
+            "case {case}"
+        );
     }
     Ok(())
 }
@@ -559,7 +612,10 @@ fn other_names(rt: HostRuntime) -> Result<(), Fail> {
 fn other_statements(rt: HostRuntime) -> Result<(), Fail> {
     let alloc = rt.alloc();
     for case in 0..10 {
-        assert!(rt; matches!(found(alloc, &refused_statements(case)), Ok(None)), "case {case}");
+        assert!(rt;
+            matches!(found(alloc, &refused_statements(case)), Ok(None)),
+            "case {case}"
+        );
     }
     Ok(())
 }
