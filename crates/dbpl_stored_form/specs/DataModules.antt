@@ -1,8 +1,9 @@
 -- Which trees are database modules of the form, and what each declares:
 --
 --     DATABASE MODULE D; TYPE R = RECORD a, b: CARDINAL END; S = RELATION a OF R; VAR v: S; END D.
-use Rattle.std.specs.Prelude.{ℕ, Bool, not, ◌&&◌, bytes_eq, codes, if◌then◌else◌, List, [], ◌∷◌, ◌++◌, map, Option, Some, None, option_and_then, option_map}
-use Rattle.dbpl_database.specs.Databases.{is_kept}
+use Rattle.std.specs.Prelude.{ℕ, ◌+◌, Bool, not, ◌&&◌, bytes_eq, codes, length, nat_le, if◌then◌else◌, List, [], ◌∷◌, ◌++◌, Option, Some, None, option_and_then, option_map}
+use Rattle.dbpl_core.specs.Programs.{flat_type}
+use Rattle.std.specs.List.{list_any}
 use Rattle.dbpl_stored_form.specs.Lists.{all_of, is_empty, passing}
 use Rattle.dbpl_stored_form.specs.Names.{has_name, is_plain, is_type_name, names_of}
 use Rattle.dbpl_stored_form.specs.declared.schema.Schema.{Schema}
@@ -17,9 +18,7 @@ use Rattle.dbpl_tree.specs.declared.type_tree.FieldsOf.TheVariants as fields
 use Rattle.dbpl_tree.specs.declared.type_tree.TypeTree.{TypeTree, TypeTree-F, out-TypeTree}
 use Rattle.dbpl_tree.specs.declared.type_tree.TypeTree.TheOpen as types
 use Rattle.dbpl_tree.specs.declared.unit.DataUnit.{DataUnit}
-use Rattle.dbpl_value.specs.Types.{are_different}
-use Rattle.dbpl_value.specs.declared.db_type.DbType.{DbType}
-use Rattle.dbpl_value.specs.declared.db_type.DbType.TheVariants as kinds
+use Rattle.dbpl_value.specs.Types.{are_different, are_names, is_identifier, is_same_name}
 use Rattle.dbpl_value.specs.declared.field.Field.{Field}
 
 -- ---- types
@@ -84,24 +83,25 @@ declared_in unit items = None
 
 -- ---- the relation variable
 
-abbrev pub cardinal_field : List ℕ → Field
-cardinal_field name = record { name = name; kind = kinds.Card }
-
-abbrev pub kind_of : Schema → DbType
-kind_of schema = kinds.Rel (schema.key ∷ []) (kinds.Rec (map cardinal_field schema.fields))
-
 -- its module's name and its own, joined by a full stop
 abbrev pub joined_name : Schema → List ℕ
 joined_name schema = schema.unit ++ 46 ∷ schema.variable
 
 -- the relation variable, by the name under which it is stored
 abbrev pub variable_of : Schema → Field
-variable_of schema = record { name = joined_name schema; kind = kind_of schema }
+variable_of schema = record { name = joined_name schema; kind = flat_type schema.key schema.fields }
 
--- Its names are identifiers and not too long, no two fields have one name, the key is one of them, and there are not too
--- many of them.
-unfoldable pub can_be_kept : Schema → Bool
-can_be_kept schema = is_kept (joined_name schema) (kind_of schema)
+-- two identifiers, which are not too long
+abbrev pub is_variable_name : List ℕ → List ℕ → Bool
+is_variable_name unit variable = is_identifier unit && is_identifier variable && nat_le (length unit + 1 + length variable) 128
+
+-- not too many fields, no two of one name, and the key is one of them
+abbrev pub are_fields : List ℕ → List (List ℕ) → Bool
+are_fields key names = list_any (is_same_name key) names && nat_le (length names) 65536 && are_names names
+
+-- the relation variable can be stored
+abbrev pub can_be_kept : Schema → Bool
+can_be_kept schema = is_variable_name schema.unit schema.variable && are_fields schema.key schema.fields
 
 -- no name is declared twice
 abbrev pub are_names_different : Schema → Bool

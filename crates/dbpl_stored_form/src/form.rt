@@ -1,10 +1,7 @@
 //! The test of two trees for a database module and a program of the form.
-ghost use Rattle.std.specs.Prelude.{◌≡◌, ◌∷◌, not, IfOk};
-ghost use Rattle.std.specs.List.{list_any};
+ghost use Rattle.std.specs.Prelude.{◌≡◌, IfOk};
 ghost use Rattle.std.specs.Option.{option_copied};
-ghost use Rattle.dbpl_stored_form.specs.Imports.{imported_names as imported_names_of};
 ghost use Rattle.dbpl_stored_form.specs.Programs as spec;
-ghost use Rattle.dbpl_value.specs.Types.{are_different as are_different_names, is_same_name};
 
 use crate::Schema;
 use crate::actions::all_actions;
@@ -13,7 +10,7 @@ use crate::different::are_different;
 use crate::imports::{are_lines, imported_names};
 use crate::insertions::all_insertions;
 use crate::names::has_name;
-use crate::storing::variable_of;
+use crate::storing::{stands_in, variable_of};
 use dbpl_base::{Memory, Name};
 use dbpl_core::StoredProgram;
 use dbpl_tree::{DataUnit, Decl, Program, Routine, RoutineWord, Signature, Unit};
@@ -59,12 +56,6 @@ fn is_titled(schema: &Schema, program: &Program) -> bool
     has_name(&program.end_name, program.name.name.as_bytes())
         && !has_name(&program.name, b"InOut")
         && !has_name(&program.name, schema.unit.as_bytes())
-}
-
-fn stands_in(name: &Name, names: &[Name]) -> bool
-    ensures { result ≡ list_any (is_same_name name.now) names.now }
-{
-    names.iter().any(|other| *name == *other)
 }
 
 /// Whether no name is declared twice, and the program imports none that is its own.

@@ -1,8 +1,8 @@
 //! The relation variable that a database module declares, as it is stored.
-ghost use Rattle.std.specs.Prelude.{◌≡◌, ◌&&◌, [], ◌∷◌, IfOk, length, map, nat_le};
+ghost use Rattle.std.specs.Prelude.{◌≡◌, ◌+◌, [], ◌∷◌, IfOk, length, map, nat_le};
 ghost use Rattle.std.specs.List.{list_all, list_any};
 ghost use Rattle.dbpl_base.specs.Words.{is_letter as is_letter_byte, is_word_byte};
-ghost use Rattle.dbpl_database.specs.Databases.{is_kept_name as is_kept_name_of};
+ghost use Rattle.dbpl_core.specs.Programs.{cardinal_field, flat_type};
 ghost use Rattle.dbpl_stored_form.specs.DataModules as spec;
 ghost use Rattle.dbpl_value.specs.Types.{are_names as are_names_of, is_identifier as is_identifier_name, is_same_name};
 ghost use Rattle.dbpl_value.specs.declared.db_type.DbType.TheVariants as kinds;
@@ -19,35 +19,40 @@ const NAME_BYTES: usize = 128;
 /// How many scalars a value may have.
 const SCALARS: usize = 65_536;
 
-/// Whether the relation variable can be kept in a store.
+/// Whether the relation variable can be stored.
 pub(crate) fn can_be_kept(alloc: Global, schema: &Schema) -> Result<bool, Memory>
     ensures { IfOk result (λ answer. answer ≡ spec.can_be_kept schema.now) }
 {
-    if !is_kept_name(schema) || !has_key(schema) {
+    if !is_variable_name(&schema.unit, &schema.variable) {
         return Ok(false);
     }
-    are_names(alloc, schema.fields.as_slice())
+    are_fields(alloc, &schema.key, schema.fields.as_slice())
 }
 
-fn is_kept_name(schema: &Schema) -> bool
-    ensures { result ≡ is_kept_name_of (spec.joined_name schema.now) }
+fn is_variable_name(unit: &Name, variable: &Name) -> bool
+    ensures { result ≡ spec.is_variable_name unit.now variable.now }
 {
-    let module = schema.unit.as_bytes();
-    let variable = schema.variable.as_bytes();
-    is_identifier(module)
-        && is_identifier(variable)
-        && module.len() < NAME_BYTES
-        && variable.len() < NAME_BYTES - module.len()
+    let (unit, variable) = (unit.as_bytes(), variable.as_bytes());
+    is_identifier(unit) && is_identifier(variable) && are_short(unit, variable)
 }
 
-/// The key is a field, and there are not too many fields.
-fn has_key(schema: &Schema) -> bool
-    ensures { result ≡ (list_any (is_same_name schema.now.key) schema.now.fields && nat_le (length schema.now.fields) 65536) }
+fn are_short(unit: &[u8], variable: &[u8]) -> bool
+    ensures { result ≡ nat_le (length unit.now + 1 + length variable.now) 128 }
 {
-    stands_in(&schema.key, schema.fields.as_slice()) && schema.fields.len() <= SCALARS
+    unit.len() < NAME_BYTES && variable.len() < NAME_BYTES - unit.len()
 }
 
-fn stands_in(name: &Name, names: &[Name]) -> bool
+fn are_fields(alloc: Global, key: &Name, names: &[Name]) -> Result<bool, Memory>
+    ensures { IfOk result (λ answer. answer ≡ spec.are_fields key.now names.now) }
+{
+    if !stands_in(key, names) || names.len() > SCALARS {
+        return Ok(false);
+    }
+    are_names(alloc, names)
+}
+
+/// Whether the name is one of these.
+pub(crate) fn stands_in(name: &Name, names: &[Name]) -> bool
     ensures { result ≡ list_any (is_same_name name.now) names.now }
 {
     names.iter().any(|other| *name == *other)
@@ -108,7 +113,7 @@ fn joined_name(alloc: Global, schema: &Schema) -> Result<Name, Memory>
 }
 
 fn kind_of(alloc: Global, schema: &Schema) -> Result<DbType, Memory>
-    ensures { IfOk result (λ kind. kind ≡ spec.kind_of schema.now) }
+    ensures { IfOk result (λ kind. kind ≡ flat_type schema.now.key schema.now.fields) }
 {
     let keys = key_list(alloc, &schema.key)?;
     let element = Boxed::new(alloc, record_type(alloc, schema.fields.as_slice())?)?;
@@ -125,7 +130,7 @@ fn key_list(alloc: Global, key: &Name) -> Result<List<Name>, Memory>
 
 /// The record type with these fields, all of type CARDINAL.
 fn record_type(alloc: Global, names: &[Name]) -> Result<DbType, Memory>
-    ensures { IfOk result (λ kind. kind ≡ kinds.Rec (map spec.cardinal_field names.now)) }
+    ensures { IfOk result (λ kind. kind ≡ kinds.Rec (map cardinal_field names.now)) }
 {
     let mut fields = List::new(alloc);
     for name in names {

@@ -3,4 +3,4 @@ use Rattle.dbpl_stored_form.proofs.SmallLaw.{stored-small}
 use Rattle.dbpl_stored_form.proofs.laws.stored_is_small.Goals as goal
 
 pub returns : goal.returns
-returns c = stored-small
+returns c = stored-small c.flat_type_is_kept.ensures.kept c.flat_type_is_kept.ensures.flat
