@@ -117,33 +117,33 @@ returns-in_err-is_bound-clause-headline g c =
 
 pub returns-in_err-is_bound-clause-whole : goal.returns-in_err-is_bound-clause-whole
 returns-in_err-is_bound-clause-whole g c =
-    let is = handed c.from_residual.result _ c.from_residual.ensures.1 in
-    λ told database bound reads binds. no-ok c.from_residual.result _ is
+    let is = handed c.from_residual-in_err-is_bound.result _ c.from_residual-in_err-is_bound.ensures.1 in
+    λ told database bound reads binds. no-ok c.from_residual-in_err-is_bound.result _ is
 
 pub returns-in_err-is_bound-clause-whole_trapped : goal.returns-in_err-is_bound-clause-whole_trapped
 returns-in_err-is_bound-clause-whole_trapped g c =
-    let is = handed c.from_residual.result _ c.from_residual.ensures.1 in
-    λ told database bound reads binds trap e. memory-only c.from_residual.result (errors.Trapped trap) is tt e
+    let is = handed c.from_residual-in_err-is_bound.result _ c.from_residual-in_err-is_bound.ensures.1 in
+    λ told database bound reads binds trap e. memory-only c.from_residual-in_err-is_bound.result (errors.Trapped trap) is tt e
 
 pub returns-in_err-is_bound-clause-complete : goal.returns-in_err-is_bound-clause-complete
 returns-in_err-is_bound-clause-complete g c =
-    let is = handed c.from_residual.result _ c.from_residual.ensures.1 in
-    λ told database bound reads binds no_disk no_say. due-wanting c.args.program.now bound c.from_residual.result is
+    let is = handed c.from_residual-in_err-is_bound.result _ c.from_residual-in_err-is_bound.ensures.1 in
+    λ told database bound reads binds no_disk no_say. due-wanting c.args.program.now bound c.from_residual-in_err-is_bound.result is
 
 pub returns-in_err-is_bound-clause-ended : goal.returns-in_err-is_bound-clause-ended
 returns-in_err-is_bound-clause-ended g c =
-    let is = handed c.from_residual.result _ c.from_residual.ensures.1 in
-    no-ok c.from_residual.result _ is
+    let is = handed c.from_residual-in_err-is_bound.result _ c.from_residual-in_err-is_bound.ensures.1 in
+    no-ok c.from_residual-in_err-is_bound.result _ is
 
 pub returns-in_err-is_bound-clause-trapped : goal.returns-in_err-is_bound-clause-trapped
 returns-in_err-is_bound-clause-trapped g c =
-    let is = handed c.from_residual.result _ c.from_residual.ensures.1 in
-    λ trap e. memory-only c.from_residual.result (errors.Trapped trap) is tt e
+    let is = handed c.from_residual-in_err-is_bound.result _ c.from_residual-in_err-is_bound.ensures.1 in
+    λ trap e. memory-only c.from_residual-in_err-is_bound.result (errors.Trapped trap) is tt e
 
 pub returns-in_err-is_bound-clause-not_store : goal.returns-in_err-is_bound-clause-not_store
 returns-in_err-is_bound-clause-not_store g c =
-    let is = handed c.from_residual.result _ c.from_residual.ensures.1 in
-    λ told e. memory-only c.from_residual.result errors.NotStore is tt e
+    let is = handed c.from_residual-in_err-is_bound.result _ c.from_residual-in_err-is_bound.ensures.1 in
+    λ told e. memory-only c.from_residual-in_err-is_bound.result errors.NotStore is tt e
 
 pub returns-in_err-is_bound-clause-not_store_where : goal.returns-in_err-is_bound-clause-not_store_where
 returns-in_err-is_bound-clause-not_store_where g c =
@@ -151,37 +151,37 @@ returns-in_err-is_bound-clause-not_store_where g c =
 
 pub returns-in_err-is_bound-clause-damaged : goal.returns-in_err-is_bound-clause-damaged
 returns-in_err-is_bound-clause-damaged g c =
-    let is = handed c.from_residual.result _ c.from_residual.ensures.1 in
-    λ told page e. memory-only c.from_residual.result (errors.Damaged page) is tt e
+    let is = handed c.from_residual-in_err-is_bound.result _ c.from_residual-in_err-is_bound.ensures.1 in
+    λ told page e. memory-only c.from_residual-in_err-is_bound.result (errors.Damaged page) is tt e
 
 pub returns-in_err-is_bound-clause-damaged_where : goal.returns-in_err-is_bound-clause-damaged_where
 returns-in_err-is_bound-clause-damaged_where g c =
-    let is = handed c.from_residual.result _ c.from_residual.ensures.1 in
+    let is = handed c.from_residual-in_err-is_bound.result _ c.from_residual-in_err-is_bound.ensures.1 in
     λ told head none. inr (inr is)
 
 pub returns-in_err-is_bound-clause-differs : goal.returns-in_err-is_bound-clause-differs
 returns-in_err-is_bound-clause-differs g c =
-    let is = handed c.from_residual.result _ c.from_residual.ensures.1 in
-    λ e. memory-only c.from_residual.result errors.SchemaDiffers is tt e
+    let is = handed c.from_residual-in_err-is_bound.result _ c.from_residual-in_err-is_bound.ensures.1 in
+    λ e. memory-only c.from_residual-in_err-is_bound.result errors.SchemaDiffers is tt e
 
 pub returns-in_err-is_bound-clause-differs_where : goal.returns-in_err-is_bound-clause-differs_where
 returns-in_err-is_bound-clause-differs_where g c =
-    let is = handed c.from_residual.result _ c.from_residual.ensures.1 in
+    let is = handed c.from_residual-in_err-is_bound.result _ c.from_residual-in_err-is_bound.ensures.1 in
     λ told database reads differs. inr (inr is)
 
 pub returns-in_err-is_bound-clause-disk_fault : goal.returns-in_err-is_bound-clause-disk_fault
 returns-in_err-is_bound-clause-disk_fault g c =
-    let is = handed c.from_residual.result _ c.from_residual.ensures.1 in
-    λ e. memory-only c.from_residual.result errors.DiskFault is tt e
+    let is = handed c.from_residual-in_err-is_bound.result _ c.from_residual-in_err-is_bound.ensures.1 in
+    λ e. memory-only c.from_residual-in_err-is_bound.result errors.DiskFault is tt e
 
 pub returns-in_err-is_bound-clause-out_fault : goal.returns-in_err-is_bound-clause-out_fault
 returns-in_err-is_bound-clause-out_fault g c =
-    let is = handed c.from_residual.result _ c.from_residual.ensures.1 in
-    λ e. memory-only c.from_residual.result errors.OutFault is tt e
+    let is = handed c.from_residual-in_err-is_bound.result _ c.from_residual-in_err-is_bound.ensures.1 in
+    λ e. memory-only c.from_residual-in_err-is_bound.result errors.OutFault is tt e
 
 pub returns-in_err-is_bound-clause-refused : goal.returns-in_err-is_bound-clause-refused
 returns-in_err-is_bound-clause-refused g c =
-    λ told. every-err c.from_residual.result (λ why refusal. c.open.ensures.moments told)
+    λ told. every-err c.from_residual-in_err-is_bound.result (λ why refusal. c.open.ensures.moments told)
 
 pub returns-in_err-is_bound-clause-only : goal.returns-in_err-is_bound-clause-only
 returns-in_err-is_bound-clause-only g c =
@@ -250,8 +250,8 @@ returns-in_err-run_body-clause-headline g c =
 
 pub returns-in_err-run_body-clause-whole : goal.returns-in_err-run_body-clause-whole
 returns-in_err-run_body-clause-whole g c =
-    let is = handed c.from_residual.result _ c.from_residual.ensures.1 in
-    λ told database bound reads binds. no-ok c.from_residual.result _ is
+    let is = handed c.from_residual-in_err-run_body.result _ c.from_residual-in_err-run_body.ensures.1 in
+    λ told database bound reads binds. no-ok c.from_residual-in_err-run_body.result _ is
 
 pub returns-in_err-run_body-clause-whole_trapped : goal.returns-in_err-run_body-clause-whole_trapped
 returns-in_err-run_body-clause-whole_trapped g c =
@@ -263,9 +263,9 @@ returns-in_err-run_body-clause-whole_trapped g c =
     (c.in_ok-store.ensures.«open» told))
     c.open.ensures.moments
     in
-    let is = handed c.from_residual.result _ c.from_residual.ensures.1 in
+    let is = handed c.from_residual-in_err-run_body.result _ c.from_residual-in_err-run_body.ensures.1 in
     λ told database bound reads binds trap e.
-    let why = was-trapped c.from_residual.result _ is trap e in
+    let why = was-trapped c.from_residual-in_err-run_body.result _ is trap e in
     begun-made c.args.program.now g.W.World.tells c.bind.new.self (g.W.World.history c.args.world.now) (g.W.World.history c.open.new.world) begins (g.W.World.history c.run_body.new.world) told database bound reads binds
     (λ t o. c.run_body.ensures.made_trapped t o trap (c.in_err-run_body.was ∙ ap (λ w. Err w) why))
 
@@ -279,18 +279,18 @@ returns-in_err-run_body-clause-complete g c =
     (c.in_ok-store.ensures.«open» told))
     c.open.ensures.moments
     in
-    let is = handed c.from_residual.result _ c.from_residual.ensures.1 in
+    let is = handed c.from_residual-in_err-run_body.result _ c.from_residual-in_err-run_body.ensures.1 in
     let before = disk-counts _ _ c.open.ensures.counts in
     λ told database bound reads binds no_disk no_say.
-    due-stopped c.args.program.now bound c.from_residual.result _ is
+    due-stopped c.args.program.now bound c.from_residual-in_err-run_body.result _ is
     (λ trap why. begun-stands c.args.program.now g.W.World.tells c.bind.new.self (g.W.World.history c.args.world.now) (g.W.World.history c.open.new.world) begins (g.W.World.history c.run_body.new.world) told database bound reads binds (Trapped trap) (c.run_body.ensures.trapped trap (c.in_err-run_body.was ∙ ap (λ w. Err w) why)))
     (λ why. no_disk (rose_since _ _ _ before.disk_later (c.run_body.ensures.disk_fault (c.in_err-run_body.was ∙ ap (λ w. Err w) why))))
     (λ why. no_say (rose_since _ _ _ before.say_later (c.run_body.ensures.out_fault (c.in_err-run_body.was ∙ ap (λ w. Err w) why))))
 
 pub returns-in_err-run_body-clause-ended : goal.returns-in_err-run_body-clause-ended
 returns-in_err-run_body-clause-ended g c =
-    let is = handed c.from_residual.result _ c.from_residual.ensures.1 in
-    no-ok c.from_residual.result _ is
+    let is = handed c.from_residual-in_err-run_body.result _ c.from_residual-in_err-run_body.ensures.1 in
+    no-ok c.from_residual-in_err-run_body.result _ is
 
 pub returns-in_err-run_body-clause-trapped : goal.returns-in_err-run_body-clause-trapped
 returns-in_err-run_body-clause-trapped g c =
@@ -302,16 +302,16 @@ returns-in_err-run_body-clause-trapped g c =
     (c.in_ok-store.ensures.«open» told))
     c.open.ensures.moments
     in
-    let is = handed c.from_residual.result _ c.from_residual.ensures.1 in
+    let is = handed c.from_residual-in_err-run_body.result _ c.from_residual-in_err-run_body.ensures.1 in
     λ trap e.
-    let why = was-trapped c.from_residual.result _ is trap e in
+    let why = was-trapped c.from_residual-in_err-run_body.result _ is trap e in
     begun-run c.args.program.now g.W.World.tells c.bind.new.self (g.W.World.history c.args.world.now) (g.W.World.history c.open.new.world) begins (g.W.World.history c.run_body.new.world) (Trapped trap) (c.run_body.ensures.trapped trap (c.in_err-run_body.was ∙ ap (λ w. Err w) why))
     (λ t o. c.run_body.ensures.made_trapped t o trap (c.in_err-run_body.was ∙ ap (λ w. Err w) why))
 
 pub returns-in_err-run_body-clause-not_store : goal.returns-in_err-run_body-clause-not_store
 returns-in_err-run_body-clause-not_store g c =
-    let is = handed c.from_residual.result _ c.from_residual.ensures.1 in
-    λ told e. no-refusal c.from_residual.result _ is errors.NotStore tt e
+    let is = handed c.from_residual-in_err-run_body.result _ c.from_residual-in_err-run_body.ensures.1 in
+    λ told e. no-refusal c.from_residual-in_err-run_body.result _ is errors.NotStore tt e
 
 pub returns-in_err-run_body-clause-not_store_where : goal.returns-in_err-run_body-clause-not_store_where
 returns-in_err-run_body-clause-not_store_where g c =
@@ -327,8 +327,8 @@ returns-in_err-run_body-clause-not_store_where g c =
 
 pub returns-in_err-run_body-clause-damaged : goal.returns-in_err-run_body-clause-damaged
 returns-in_err-run_body-clause-damaged g c =
-    let is = handed c.from_residual.result _ c.from_residual.ensures.1 in
-    λ told page e. no-refusal c.from_residual.result _ is (errors.Damaged page) tt e
+    let is = handed c.from_residual-in_err-run_body.result _ c.from_residual-in_err-run_body.ensures.1 in
+    λ told page e. no-refusal c.from_residual-in_err-run_body.result _ is (errors.Damaged page) tt e
 
 pub returns-in_err-run_body-clause-damaged_where : goal.returns-in_err-run_body-clause-damaged_where
 returns-in_err-run_body-clause-damaged_where g c =
@@ -344,8 +344,8 @@ returns-in_err-run_body-clause-damaged_where g c =
 
 pub returns-in_err-run_body-clause-differs : goal.returns-in_err-run_body-clause-differs
 returns-in_err-run_body-clause-differs g c =
-    let is = handed c.from_residual.result _ c.from_residual.ensures.1 in
-    λ e. no-refusal c.from_residual.result _ is errors.SchemaDiffers tt e
+    let is = handed c.from_residual-in_err-run_body.result _ c.from_residual-in_err-run_body.ensures.1 in
+    λ e. no-refusal c.from_residual-in_err-run_body.result _ is errors.SchemaDiffers tt e
 
 pub returns-in_err-run_body-clause-differs_where : goal.returns-in_err-run_body-clause-differs_where
 returns-in_err-run_body-clause-differs_where g c =
@@ -361,22 +361,22 @@ returns-in_err-run_body-clause-differs_where g c =
 
 pub returns-in_err-run_body-clause-disk_fault : goal.returns-in_err-run_body-clause-disk_fault
 returns-in_err-run_body-clause-disk_fault g c =
-    let is = handed c.from_residual.result _ c.from_residual.ensures.1 in
+    let is = handed c.from_residual-in_err-run_body.result _ c.from_residual-in_err-run_body.ensures.1 in
     let before = disk-counts _ _ c.open.ensures.counts in
     λ e.
-    rose_since _ _ _ before.disk_later (c.run_body.ensures.disk_fault (c.in_err-run_body.was ∙ ap (λ w. Err w) (was-disk_fault c.from_residual.result _ is e)))
+    rose_since _ _ _ before.disk_later (c.run_body.ensures.disk_fault (c.in_err-run_body.was ∙ ap (λ w. Err w) (was-disk_fault c.from_residual-in_err-run_body.result _ is e)))
 
 pub returns-in_err-run_body-clause-out_fault : goal.returns-in_err-run_body-clause-out_fault
 returns-in_err-run_body-clause-out_fault g c =
-    let is = handed c.from_residual.result _ c.from_residual.ensures.1 in
+    let is = handed c.from_residual-in_err-run_body.result _ c.from_residual-in_err-run_body.ensures.1 in
     let before = disk-counts _ _ c.open.ensures.counts in
     λ e.
-    rose_since _ _ _ before.say_later (c.run_body.ensures.out_fault (c.in_err-run_body.was ∙ ap (λ w. Err w) (was-out_fault c.from_residual.result _ is e)))
+    rose_since _ _ _ before.say_later (c.run_body.ensures.out_fault (c.in_err-run_body.was ∙ ap (λ w. Err w) (was-out_fault c.from_residual-in_err-run_body.result _ is e)))
 
 pub returns-in_err-run_body-clause-refused : goal.returns-in_err-run_body-clause-refused
 returns-in_err-run_body-clause-refused g c =
-    let is = handed c.from_residual.result _ c.from_residual.ensures.1 in
-    λ told. unrefused c.from_residual.result _ is
+    let is = handed c.from_residual-in_err-run_body.result _ c.from_residual-in_err-run_body.ensures.1 in
+    λ told. unrefused c.from_residual-in_err-run_body.result _ is
 
 pub returns-in_err-run_body-clause-only : goal.returns-in_err-run_body-clause-only
 returns-in_err-run_body-clause-only g c =

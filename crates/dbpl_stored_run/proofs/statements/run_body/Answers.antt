@@ -1,7 +1,7 @@
 -- One statement after another.
 use Rattle.std.proofs.Common.{◌+◌, ◌∷◌, ◌∙◌, List, drop, refl, subst, sym}
 use Rattle.dbpl_core.specs.declared.action.Action.{Action}
-use Rattle.dbpl_stored_run.proofs.Answering.{counts-same, counts-then, handed}
+use Rattle.dbpl_stored_run.proofs.Answering.{counts-same, counts-then, handed, no-ok}
 use Rattle.dbpl_stored_run.proofs.Progress.{HasCome, come-on, come-start, ended-made, ended-moments, ended-so, from-index, past-end, stopped-moments, trapped-made, trapped-so}
 use Rattle.dbpl_stored_run.proofs.Tying.{only-none, only-then}
 use Rattle.dbpl_world.proofs.CountLaws.{rose_since}
@@ -126,3 +126,21 @@ pub returns-in_err-act-clause-out_fault : goal.returns-in_err-act-clause-out_fau
 returns-in_err-act-clause-out_fault g c = λ is.
     let same = c.in_err-act.was ∙ sym (handed c.from_residual.result _ c.from_residual.ensures.1) in
     rose_since _ _ _ c.loop-action.invariant.counts.say_later (c.act.ensures.out_fault (same ∙ is))
+
+pub returns-in_err-act-clause-made : goal.returns-in_err-act-clause-made
+returns-in_err-act-clause-made g c = λ told opened. no-ok c.from_residual.result _ (handed c.from_residual.result _ c.from_residual.ensures.1)
+
+pub returns-in_err-act-clause-ended : goal.returns-in_err-act-clause-ended
+returns-in_err-act-clause-ended g c = no-ok c.from_residual.result _ (handed c.from_residual.result _ c.from_residual.ensures.1)
+
+pub returns-in_err-act-clause-same : goal.returns-in_err-act-clause-same
+returns-in_err-act-clause-same g c = c.act.ensures.same ∙ c.loop-action.invariant.same
+
+pub returns-clause-only : goal.returns-clause-only
+returns-clause-only g c = c.loop-action.invariant.only
+
+pub returns-clause-same : goal.returns-clause-same
+returns-clause-same g c = c.loop-action.invariant.same
+
+pub returns-clause-counts : goal.returns-clause-counts
+returns-clause-counts g c = c.loop-action.invariant.counts

@@ -2,7 +2,7 @@
 use Rattle.std.proofs.Common.{[], ◌∷◌, ◌∙◌, Err, ap, refl, sym}
 use Rattle.dbpl_core.specs.declared.action.Action.TheVariants.{Transact}
 use Rattle.dbpl_store.specs.Stores.{committed_of, database_in}
-use Rattle.dbpl_stored_run.proofs.Answering.{handed}
+use Rattle.dbpl_stored_run.proofs.Answering.{handed, no-ok}
 use Rattle.dbpl_stored_run.proofs.Steps.{trapped-stands}
 use Rattle.dbpl_stored_run.proofs.Stores.{open-kept, open-stands, still-bound}
 use Rattle.dbpl_stored_run.proofs.Commits.{done-ended, done-last, done-made, done-moments, trapped-made, was-no_disk_fault, was-no_out_fault, was-trap}
@@ -42,6 +42,27 @@ returns-in_err-change-clause-disk_fault g c = λ is.
 pub returns-in_err-change-clause-no_out_fault : goal.returns-in_err-change-clause-no_out_fault
 returns-in_err-change-clause-no_out_fault g c = λ is.
     was-no_out_fault c.from_residual.result _ (handed c.from_residual.result _ c.from_residual.ensures.1) is
+
+pub returns-in_err-change-clause-made : goal.returns-in_err-change-clause-made
+returns-in_err-change-clause-made g c = λ told opened. no-ok c.from_residual.result _ (handed c.from_residual.result _ c.from_residual.ensures.1)
+
+pub returns-in_err-change-clause-opened : goal.returns-in_err-change-clause-opened
+returns-in_err-change-clause-opened g c = λ told opened. no-ok c.from_residual.result _ (handed c.from_residual.result _ c.from_residual.ensures.1)
+
+pub returns-in_err-change-clause-ended : goal.returns-in_err-change-clause-ended
+returns-in_err-change-clause-ended g c = no-ok c.from_residual.result _ (handed c.from_residual.result _ c.from_residual.ensures.1)
+
+pub returns-in_err-change-clause-committed : goal.returns-in_err-change-clause-committed
+returns-in_err-change-clause-committed g c = no-ok c.from_residual.result _ (handed c.from_residual.result _ c.from_residual.ensures.1)
+
+pub returns-in_err-change-clause-database : goal.returns-in_err-change-clause-database
+returns-in_err-change-clause-database g c = no-ok c.from_residual.result _ (handed c.from_residual.result _ c.from_residual.ensures.1)
+
+pub returns-in_err-change-clause-bound : goal.returns-in_err-change-clause-bound
+returns-in_err-change-clause-bound g c = no-ok c.from_residual.result _ (handed c.from_residual.result _ c.from_residual.ensures.1)
+
+pub returns-in_err-change-clause-still : goal.returns-in_err-change-clause-still
+returns-in_err-change-clause-still g c = no-ok c.from_residual.result _ (handed c.from_residual.result _ c.from_residual.ensures.1)
 
 -- ---- it is committed
 
