@@ -1,0 +1,10 @@
+pub mod Adding
+pub mod Databases
+pub mod Events
+pub mod Kept
+pub mod Programs
+pub mod Rows
+pub mod Sizes
+pub mod Steady
+pub mod Statements
+pub mod Turns

@@ -1,0 +1,17 @@
+-- It isn't cut off, so more turns change nothing.
+use Rattle.std.proofs.Common.{◌+◌, refl}
+use Rattle.dbpl_core.proofs.Steady.{steady}
+use Rattle.dbpl_core.proofs.Turns.{comes_to_end, whole-front}
+use Rattle.dbpl_core.specs.Whole.{turns_of}
+use Rattle.dbpl_core.proofs.laws.meaning_is_whole.Goals as goal
+
+pub returns-clause-ends : goal.returns-clause-ends
+returns-clause-ends c = comes_to_end
+
+pub returns-clause-enough : goal.returns-clause-enough
+returns-clause-enough c = λ program database others.
+    (steady program database (turns_of program) others (turns_of program + others) refl).stays (comes_to_end program database)
+
+pub returns-clause-front : goal.returns-clause-front
+returns-clause-front c = λ program database turns.
+    let front = whole-front program database turns in (front.rest, front.is)

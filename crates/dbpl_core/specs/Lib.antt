@@ -1,0 +1,6 @@
+pub mod Events
+pub mod Insertions
+pub mod Meaning
+pub mod Programs
+pub mod Sets
+pub mod Whole

@@ -1,0 +1,70 @@
+-- The turns of the loops that put behind one another what each phrase of a list gives.
+use Rattle.std.proofs.Common.{◌≡◌, ℕ, suc, ◌+◌, ◌<◌, Bool, true, false, if◌then◌else◌, List, [], ◌∷◌, ◌++◌, Option, Some, None, option_map, refl, sym, ap, ◌∙◌, add-one, append-nil, append_assoc, take, drop, get_or, length}
+use Rattle.std.proofs.Math.Seq.{drop-cons}
+use Rattle.std.proofs.lemmas.List.{take-append-drop, take_more}
+use Rattle.dbpl_stored_form.specs.Lists.{all_of, joined}
+
+joined-none : {A : Type 0} (front : Option (List A)) → joined front None ≡ None
+joined-none None = refl
+joined-none (Some front) = refl
+
+joined-nothing : {A : Type 0} (front : Option (List A)) → joined front (Some []) ≡ front
+joined-nothing None = refl
+joined-nothing (Some front) = ap Some (append-nil front)
+
+nothing-joined : {A : Type 0} (behind : Option (List A)) → joined (Some []) behind ≡ behind
+nothing-joined None = refl
+nothing-joined (Some behind) = refl
+
+joined-joined : {A : Type 0} (first second third : Option (List A)) →
+    joined first (joined second third) ≡ joined (joined first second) third
+joined-joined None second third = refl
+joined-joined (Some first) None third = refl
+joined-joined (Some first) (Some second) None = refl
+joined-joined (Some first) (Some second) (Some third) = ap Some (sym (append_assoc first second third))
+
+all_of-append : {A B : Type 0} (gives : A → Option (List B)) (front back : List A) →
+    all_of gives (front ++ back) ≡ joined (all_of gives front) (all_of gives back)
+all_of-append gives [] back = sym (nothing-joined (all_of gives back))
+all_of-append gives (x ∷ front) back =
+    ap (joined (gives x)) (all_of-append gives front back)
+    ∙ joined-joined (gives x) (all_of gives front) (all_of gives back)
+
+at_index : {A : Type 0} (xs : List A) (i : ℕ) (x : A) → x ≡ get_or xs i x → i < length xs → xs ≡ take i xs ++ (x ∷ drop (i + 1) xs)
+at_index xs i x here within =
+    sym (take-append-drop i xs)
+    ∙ ap (λ ys. take i xs ++ ys) (rw (add-one, drop-cons xs i x within) (ap (λ y. y ∷ drop (suc i) xs) (sym here)))
+
+-- the phrases so far with one more
+pub turn_more : {A B : Type 0} (gives : A → Option (List B)) (head xs : List A) (i : ℕ) (x : A) (all new : List B) →
+    x ≡ get_or xs i x → i < length xs → all_of gives (head ++ take i xs) ≡ Some all → joined (Some all) (gives x) ≡ Some new →
+    all_of gives (head ++ take (i + 1) xs) ≡ Some new
+turn_more gives head xs i x all new here within so_far next =
+    ap (λ ys. all_of gives (head ++ ys)) (take_more xs i x within ∙ ap (λ y. take i xs ++ y ∷ []) (sym here))
+    ∙ ap (all_of gives) (sym (append_assoc head (take i xs) (x ∷ [])))
+    ∙ all_of-append gives (head ++ take i xs) (x ∷ [])
+    ∙ ap (λ front. joined front (joined (gives x) (Some []))) so_far
+    ∙ ap (joined (Some all)) (joined-nothing (gives x))
+    ∙ next
+
+-- one of another form
+pub turn_none : {A B : Type 0} (gives : A → Option (List B)) (head xs : List A) (i : ℕ) (x : A) (all : List B) →
+    x ≡ get_or xs i x → i < length xs → all_of gives (head ++ take i xs) ≡ Some all → joined (Some all) (gives x) ≡ None →
+    all_of gives (head ++ xs) ≡ None
+turn_none gives head xs i x all here within so_far next =
+    ap (λ ys. all_of gives (head ++ ys)) (at_index xs i x here within)
+    ∙ ap (all_of gives) (sym (append_assoc head (take i xs) (x ∷ drop (i + 1) xs)))
+    ∙ all_of-append gives (head ++ take i xs) (x ∷ drop (i + 1) xs)
+    ∙ ap (λ front. joined front (joined (gives x) (all_of gives (drop (i + 1) xs)))) so_far
+    ∙ joined-joined (Some all) (gives x) (all_of gives (drop (i + 1) xs))
+    ∙ ap (λ front. joined front (all_of gives (drop (i + 1) xs))) next
+
+-- the first of several
+pub first_none : {A B : Type 0} (gives : A → Option (List B)) (first : A) (others : List A) → joined (Some []) (gives first) ≡ None →
+    all_of gives (first ∷ others) ≡ None
+first_none gives first others none =
+    ap (λ front. joined front (all_of gives others)) (sym (nothing-joined (gives first)) ∙ none)
+
+pub first_some : {A B : Type 0} (gives : A → Option (List B)) (first : A) (all : List B) → joined (Some []) (gives first) ≡ Some all →
+    all_of gives (first ∷ []) ≡ Some all
+first_some gives first all some = joined-nothing (gives first) ∙ sym (nothing-joined (gives first)) ∙ some

@@ -1,0 +1,6 @@
+pub mod DataModules
+pub mod Imports
+pub mod Lists
+pub mod Names
+pub mod Programs
+pub mod Statements

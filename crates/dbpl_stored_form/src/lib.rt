@@ -1,0 +1,22 @@
+//! The form of two files: a database module with one relation variable, and a program with one transaction over it.
+#![tactic(auto)]
+
+mod actions;
+mod aggregates;
+mod data_modules;
+mod different;
+mod expressions;
+mod form;
+mod imports;
+mod insertions;
+mod laws;
+mod names;
+mod schema;
+mod statements;
+mod storing;
+#[cfg(test)]
+mod tests;
+
+pub use form::stored;
+pub use laws::stored_is_small;
+pub use schema::Schema;

@@ -1,0 +1,5 @@
+pub mod MadeLaw
+pub mod Mounting
+pub mod NoteLaw
+pub mod RunLaw
+pub mod RunsLaw

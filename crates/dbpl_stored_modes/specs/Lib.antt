@@ -1,0 +1,6 @@
+pub mod Creating
+pub mod Images
+pub mod Reading
+pub mod Runs
+pub mod StoredRuns
+pub mod Work

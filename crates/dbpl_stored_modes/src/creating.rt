@@ -1,0 +1,37 @@
+//! The command that makes an empty store.
+ghost use Rattle.std.specs.Prelude.{ℕ, Option};
+ghost use Rattle.dbpl_stored_modes.specs.Creating.{Creates};
+ghost use Rattle.dbpl_world.specs.Counts.{OnlyDiskFaults};
+ghost use Rattle.dbpl_world.specs.Files.{Files};
+
+use dbpl_base::Status;
+use dbpl_store::{CreateErr, create};
+use dbpl_world::{MountErr, World};
+use std::alloc::Global;
+
+/// Makes an empty store of this name.
+pub fn create_store<W: World>(alloc: Global, store: &str, world: &mut W) -> Status
+    ensures created { (files : Option Files) (faults : ℕ) → Creates store.now (record {
+      files = files;
+      shelf_faults_before = faults;
+      shelf_faults_after = faults;
+      tells = W.tells;
+      before = W.history world.old;
+      after = W.history world.new;
+      counts_before = W.counts world.old;
+      counts_after = W.counts world.new;
+    }) result }
+    ensures counts { OnlyDiskFaults (W.counts world.old) (W.counts world.new) }
+{
+    match world.mount(alloc, store) {
+        Ok(()) => {}
+        Err(MountErr::Failed) => return Status::DiskFault,
+        Err(MountErr::Memory) => return Status::Memory,
+    }
+    match create(world) {
+        Ok(()) => Status::Done,
+        Err(CreateErr::Exists) => Status::Exists,
+        Err(CreateErr::Foreign) => Status::Foreign,
+        Err(CreateErr::Disk) => Status::DiskFault,
+    }
+}

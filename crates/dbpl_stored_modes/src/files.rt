@@ -1,0 +1,87 @@
+//! The command that runs two files over a store.
+ghost use Rattle.std.specs.Prelude.{◌≡◌, ◌≤◌, length, IfErr, IfOk, IsTrue};
+ghost use Rattle.dbpl_core.specs.Programs.{is_small_program};
+ghost use Rattle.dbpl_stored_form.specs.Texts.{IsStored};
+ghost use Rattle.dbpl_stored_modes.specs.Reading.{IsNoProgram, IsRefusal, ReadsProgram};
+ghost use Rattle.dbpl_stored_modes.specs.Runs.{Runs};
+ghost use Rattle.dbpl_stored_run.specs.Leaving.{OnlyRunFaults};
+
+use crate::running::run_over;
+use dbpl_base::{SOURCE_BYTES, Status};
+use dbpl_core::StoredProgram;
+use dbpl_front::FrontErr;
+use dbpl_sources::source;
+use dbpl_stored_form::read_stored;
+use dbpl_world::{Shelf, World};
+use std::alloc::Global;
+
+/// Runs the program of a database module's file and a program's over the store of this name, where `-` stands for none.
+pub fn run_files<W: World, S: Shelf>(
+    alloc: Global,
+    store: &str,
+    schema: &str,
+    program: &str,
+    shelf: &mut S,
+    world: &mut W,
+) -> Status
+    ensures runs { Runs store.now schema.now program.now (record {
+      files = S.files shelf.old;
+      shelf_faults_before = S.shelf_faults shelf.old;
+      shelf_faults_after = S.shelf_faults shelf.new;
+      tells = W.tells;
+      before = W.history world.old;
+      after = W.history world.new;
+      counts_before = W.counts world.old;
+      counts_after = W.counts world.new;
+    }) result }
+    ensures counts { OnlyRunFaults (W.counts world.old) (W.counts world.new) }
+    ensures files { S.files shelf.new ≡ S.files shelf.old }
+    ensures faults { S.shelf_faults shelf.old ≤ S.shelf_faults shelf.new }
+{
+    match program_in(alloc, schema, program, shelf) {
+        Ok(stored) => run_over(alloc, store, &stored, world),
+        Err(status) => status,
+    }
+}
+
+/// The program of the two files.
+fn program_in<S: Shelf>(
+    alloc: Global,
+    schema: &str,
+    program: &str,
+    shelf: &mut S,
+) -> Result<StoredProgram, Status>
+    ensures found { IfOk result (λ stored. ReadsProgram (S.files shelf.old) schema.now program.now stored) }
+    ensures small { IfOk result (λ stored. IsTrue (is_small_program stored)) }
+    ensures err { IfErr result (λ status. IsNoProgram (S.files shelf.old) schema.now program.now (S.shelf_faults shelf.old) (S.shelf_faults shelf.new) status) }
+    ensures files { S.files shelf.new ≡ S.files shelf.old }
+    ensures faults { S.shelf_faults shelf.old ≤ S.shelf_faults shelf.new }
+{
+    let schema = match source(alloc, shelf, schema) {
+        Ok(text) => text,
+        Err(status) => return Err(status),
+    };
+    let program = match source(alloc, shelf, program) {
+        Ok(text) => text,
+        Err(status) => return Err(status),
+    };
+    program_of(alloc, schema.as_slice(), program.as_slice())
+}
+
+/// The program that the two texts are.
+fn program_of(alloc: Global, schema: &[u8], program: &[u8]) -> Result<StoredProgram, Status>
+    requires schema { length schema.now ≤ SOURCE_BYTES }
+    requires program { length program.now ≤ SOURCE_BYTES }
+    ensures found { IfOk result (λ stored. IsStored schema.now program.now stored) }
+    ensures small { IfOk result (λ stored. IsTrue (is_small_program stored)) }
+    ensures err { IfErr result (λ status. IsRefusal schema.now program.now status) }
+{
+    match read_stored(alloc, schema, program) {
+        Ok(stored) => Ok(stored),
+        Err(FrontErr::Refused(refusal)) => Err(Status::Refused {
+            place: refusal.place,
+            rule: refusal.rule,
+        }),
+        Err(FrontErr::Memory) => Err(Status::Memory),
+    }
+}

@@ -1,0 +1,67 @@
+//! A run of a program over the store of a name.
+ghost use Rattle.std.specs.Prelude.{ℕ, IsTrue, Option};
+ghost use Rattle.dbpl_core.specs.Programs.{is_small_program};
+ghost use Rattle.dbpl_stored_modes.specs.StoredRuns.{IsStatusOf, RunsStored};
+ghost use Rattle.dbpl_stored_run.specs.Leaving.{OnlyRunFaults};
+ghost use Rattle.dbpl_world.specs.Files.{Files};
+
+use dbpl_base::Status;
+use dbpl_core::StoredProgram;
+use dbpl_stored_run::{StopErr, run_stored};
+use dbpl_world::{MountErr, World};
+use std::alloc::Global;
+
+/// Runs the program over the store of this name, where `-` stands for none. Nothing of it is fetched, and no fetch failed.
+pub fn run_over<W: World>(
+    alloc: Global,
+    store: &str,
+    program: &StoredProgram,
+    world: &mut W,
+) -> Status
+    requires small { IsTrue (is_small_program program.now) }
+    ensures runs { (files : Option Files) (faults_before faults_after : ℕ) → RunsStored store.now program.now (record {
+      files = files;
+      shelf_faults_before = faults_before;
+      shelf_faults_after = faults_after;
+      tells = W.tells;
+      before = W.history world.old;
+      after = W.history world.new;
+      counts_before = W.counts world.old;
+      counts_after = W.counts world.new;
+    }) result }
+    ensures counts { OnlyRunFaults (W.counts world.old) (W.counts world.new) }
+{
+    if store == "-" {
+        return Status::NotStore;
+    }
+    match world.mount(alloc, store) {
+        Ok(()) => {}
+        Err(MountErr::Failed) => return Status::DiskFault,
+        Err(MountErr::Memory) => return Status::Memory,
+    }
+    match run_stored(alloc, program, world) {
+        Ok(()) => Status::Done,
+        Err(why) => status_of(alloc, program, why),
+    }
+}
+
+/// The answer of a run that stopped so. The name of the relation variable wants memory.
+fn status_of(alloc: Global, program: &StoredProgram, why: StopErr) -> Status
+    ensures { IsStatusOf program.now why result }
+{
+    match why {
+        StopErr::Trapped(trap) => Status::Trapped {
+            kind: trap.kind,
+            place: trap.place,
+        },
+        StopErr::NotStore => Status::NotStore,
+        StopErr::Damaged(page) => Status::Damaged(page),
+        StopErr::SchemaDiffers => match program.relation.name.copy(alloc) {
+            Ok(name) => Status::SchemaDiffers(name),
+            Err(_) => Status::Memory,
+        },
+        StopErr::DiskFault => Status::DiskFault,
+        StopErr::OutFault => Status::OutFault,
+        StopErr::Memory => Status::Memory,
+    }
+}

@@ -1,0 +1,10 @@
+pub mod Acting
+pub mod Answering
+pub mod Bindings
+pub mod Commits
+pub mod Ending
+pub mod Progress
+pub mod Saying
+pub mod Steps
+pub mod Stores
+pub mod Tying

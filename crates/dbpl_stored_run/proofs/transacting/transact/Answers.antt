@@ -1,0 +1,127 @@
+-- What the store has in memory is what its commit leaves.
+use Rattle.std.proofs.Common.{[], ◌∷◌, ◌∙◌, Err, ap, refl, sym}
+use Rattle.dbpl_core.specs.declared.action.Action.TheVariants.{Transact}
+use Rattle.dbpl_store.specs.Stores.{committed_of, database_in}
+use Rattle.dbpl_stored_run.proofs.Answering.{handed, no-ok}
+use Rattle.dbpl_stored_run.proofs.Steps.{trapped-stands}
+use Rattle.dbpl_stored_run.proofs.Stores.{open-kept, open-stands, still-bound}
+use Rattle.dbpl_stored_run.proofs.Commits.{done-ended, done-last, done-made, done-moments, trapped-made, was-no_disk_fault, was-no_out_fault, was-trap}
+use Rattle.dbpl_stored_run.proofs.Tying.{moments-still, only-log, only-none}
+use Rattle.dbpl_stored_run.specs.Statements.{events_by}
+use Rattle.dbpl_world.specs.History.{now}
+use Rattle.dbpl_stored_run.proofs.transacting.transact.Goals as goal
+
+-- ---- it was not done
+
+pub returns-in_err-change-clause-moments : goal.returns-in_err-change-clause-moments
+returns-in_err-change-clause-moments g c = λ told opened.
+    let h = g.W.World.history c.args.world.now in
+    moments-still (events_by c.args.program.now (Transact ∷ []) (database_in c.args.store.now)) (committed_of c.args.store.now) h
+    (open-stands (now h) c.args.store.now opened)
+
+pub returns-in_err-change-clause-trapped : goal.returns-in_err-change-clause-trapped
+returns-in_err-change-clause-trapped g c = λ trap is.
+    let why = was-trap c.from_residual.result _ (handed c.from_residual.result _ c.from_residual.ensures.1) trap is in
+    trapped-stands c.args.program.now (database_in c.args.store.now) trap
+    (c.change.ensures.trap trap (c.in_err-change.was ∙ ap (λ e. Err e) why))
+
+pub returns-in_err-change-clause-made_trapped : goal.returns-in_err-change-clause-made_trapped
+returns-in_err-change-clause-made_trapped g c = λ told opened trap is.
+    let h = g.W.World.history c.args.world.now in
+    let why = was-trap c.from_residual.result _ (handed c.from_residual.result _ c.from_residual.ensures.1) trap is in
+    trapped-made c.args.program.now c.args.store.now trap (now h)
+    (c.change.ensures.trap trap (c.in_err-change.was ∙ ap (λ e. Err e) why)) (open-stands (now h) c.args.store.now opened)
+
+pub returns-in_err-change-clause-only : goal.returns-in_err-change-clause-only
+returns-in_err-change-clause-only g c = λ told. only-none (g.W.World.history c.args.world.now)
+
+pub returns-in_err-change-clause-disk_fault : goal.returns-in_err-change-clause-disk_fault
+returns-in_err-change-clause-disk_fault g c = λ is.
+    was-no_disk_fault c.from_residual.result _ (handed c.from_residual.result _ c.from_residual.ensures.1) is
+
+pub returns-in_err-change-clause-no_out_fault : goal.returns-in_err-change-clause-no_out_fault
+returns-in_err-change-clause-no_out_fault g c = λ is.
+    was-no_out_fault c.from_residual.result _ (handed c.from_residual.result _ c.from_residual.ensures.1) is
+
+pub returns-in_err-change-clause-made : goal.returns-in_err-change-clause-made
+returns-in_err-change-clause-made g c = λ told opened. no-ok c.from_residual.result _ (handed c.from_residual.result _ c.from_residual.ensures.1)
+
+pub returns-in_err-change-clause-opened : goal.returns-in_err-change-clause-opened
+returns-in_err-change-clause-opened g c = λ told opened. no-ok c.from_residual.result _ (handed c.from_residual.result _ c.from_residual.ensures.1)
+
+pub returns-in_err-change-clause-ended : goal.returns-in_err-change-clause-ended
+returns-in_err-change-clause-ended g c = no-ok c.from_residual.result _ (handed c.from_residual.result _ c.from_residual.ensures.1)
+
+pub returns-in_err-change-clause-committed : goal.returns-in_err-change-clause-committed
+returns-in_err-change-clause-committed g c = no-ok c.from_residual.result _ (handed c.from_residual.result _ c.from_residual.ensures.1)
+
+pub returns-in_err-change-clause-database : goal.returns-in_err-change-clause-database
+returns-in_err-change-clause-database g c = no-ok c.from_residual.result _ (handed c.from_residual.result _ c.from_residual.ensures.1)
+
+pub returns-in_err-change-clause-bound : goal.returns-in_err-change-clause-bound
+returns-in_err-change-clause-bound g c = no-ok c.from_residual.result _ (handed c.from_residual.result _ c.from_residual.ensures.1)
+
+pub returns-in_err-change-clause-still : goal.returns-in_err-change-clause-still
+returns-in_err-change-clause-still g c = no-ok c.from_residual.result _ (handed c.from_residual.result _ c.from_residual.ensures.1)
+
+-- ---- it is committed
+
+pub returns-in-Ok-clause-moments : goal.returns-in-Ok-clause-moments
+returns-in-Ok-clause-moments g c = λ told opened.
+    let h = g.W.World.history c.args.world.now in
+    done-moments c.args.program.now c.args.store.now c.change.new.store c.in_ok-change.ensures.ok h
+    (g.W.World.history c.commit.new.world) c.change.ensures.committed
+    (c.commit.ensures.moments told
+    (open-kept (now h) (now h) c.args.store.now c.change.new.store refl c.change.ensures.log c.change.ensures.committed opened))
+
+pub returns-in-Ok-clause-made : goal.returns-in-Ok-clause-made
+returns-in-Ok-clause-made g c = λ told opened.
+    let h = g.W.World.history c.args.world.now in
+    let stays =
+    open-kept (now h) (now h) c.args.store.now c.change.new.store refl c.change.ensures.log c.change.ensures.committed opened
+    in
+    done-made c.args.program.now c.args.store.now c.change.new.store c.in_ok-change.ensures.ok h
+    (g.W.World.history c.commit.new.world) c.change.ensures.committed c.commit.new.self (c.commit.ensures.moments told stays)
+    (c.in-Ok.ensures.«open» told stays) c.in-Ok.ensures.committed
+
+pub returns-in-Ok-clause-ended : goal.returns-in-Ok-clause-ended
+returns-in-Ok-clause-ended g c = done-ended c.args.program.now c.args.store.now c.change.new.store c.in_ok-change.ensures.ok
+
+pub returns-in-Ok-clause-opened : goal.returns-in-Ok-clause-opened
+returns-in-Ok-clause-opened g c = λ told opened.
+    let h = g.W.World.history c.args.world.now in
+    c.in-Ok.ensures.«open» told
+    (open-kept (now h) (now h) c.args.store.now c.change.new.store refl c.change.ensures.log c.change.ensures.committed opened)
+
+pub returns-in-Ok-clause-committed : goal.returns-in-Ok-clause-committed
+returns-in-Ok-clause-committed g c =
+    done-last c.args.program.now c.args.store.now c.change.new.store c.in_ok-change.ensures.ok
+    (committed_of c.commit.new.self) (committed_of c.args.store.now) c.in-Ok.ensures.committed
+
+pub returns-in-Ok-clause-database : goal.returns-in-Ok-clause-database
+returns-in-Ok-clause-database g c =
+    done-last c.args.program.now c.args.store.now c.change.new.store c.in_ok-change.ensures.ok
+    (database_in c.commit.new.self) (database_in c.args.store.now) c.commit.ensures.database
+
+pub returns-in-Ok-clause-bound : goal.returns-in-Ok-clause-bound
+returns-in-Ok-clause-bound g c =
+    still-bound c.args.program.now.relation c.change.new.store c.commit.new.self c.commit.ensures.bound
+    c.in_ok-change.ensures.bound
+
+pub returns-in-Ok-clause-only : goal.returns-in-Ok-clause-only
+returns-in-Ok-clause-only g c = λ told.
+    only-log (g.W.World.history c.args.world.now) (g.W.World.history c.commit.new.world) (c.commit.ensures.only_log told)
+
+-- ---- its commit failed
+
+pub returns-in-Err-clause-moments : goal.returns-in-Err-clause-moments
+returns-in-Err-clause-moments g c = λ told opened.
+    let h = g.W.World.history c.args.world.now in
+    done-moments c.args.program.now c.args.store.now c.change.new.store c.in_ok-change.ensures.ok h
+    (g.W.World.history c.commit.new.world) c.change.ensures.committed
+    (c.commit.ensures.moments told
+    (open-kept (now h) (now h) c.args.store.now c.change.new.store refl c.change.ensures.log c.change.ensures.committed opened))
+
+pub returns-in-Err-clause-only : goal.returns-in-Err-clause-only
+returns-in-Err-clause-only g c = λ told.
+    only-log (g.W.World.history c.args.world.now) (g.W.World.history c.commit.new.world) (c.commit.ensures.only_log told)

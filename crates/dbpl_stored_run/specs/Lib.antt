@@ -1,0 +1,5 @@
+pub mod Answers
+pub mod Errors
+pub mod Headline
+pub mod Leaving
+pub mod Statements

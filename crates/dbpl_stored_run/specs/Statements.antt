@@ -1,0 +1,21 @@
+-- What one statement of the body does.
+use Rattle.std.specs.Prelude.{ℕ, List, [], ◌∷◌, ◌==◌}
+use Rattle.std.specs.List.{before_first}
+use Rattle.dbpl_core.specs.Events.{Event}
+use Rattle.dbpl_core.specs.Meaning.{Outcome, Standing}
+use Rattle.dbpl_core.specs.Whole.{comes_to}
+use Rattle.dbpl_core.specs.declared.action.Action.{Action}
+use Rattle.dbpl_core.specs.declared.stored_program.StoredProgram.{StoredProgram}
+use Rattle.dbpl_value.specs.declared.bound.Bound.{Bound}
+
+-- the events of these statements over this database
+abbrev pub events_by : StoredProgram → List Action → List Bound → List Event
+events_by program actions database = (comes_to program actions database).events
+
+-- how they end
+abbrev pub standing_by : StoredProgram → List Action → List Bound → Standing
+standing_by program actions database = (comes_to program actions database).stands
+
+-- the bytes of a string that are printed
+abbrev pub before_zero : List ℕ → List ℕ
+before_zero text = before_first (λ byte. byte == 0) text

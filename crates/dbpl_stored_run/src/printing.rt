@@ -1,0 +1,48 @@
+//! What a statement prints: each byte is said by a call of its own.
+ghost use Rattle.std.specs.Prelude.{◌≡◌, ◌==◌, ◌≤◌, List, length, map, IfErr, IsTrue, OnErr, OnOk};
+ghost use Rattle.std.specs.List.{position_or_len};
+ghost use Rattle.dbpl_core.specs.Events.{Out};
+ghost use Rattle.dbpl_stored_run.specs.Headline.{HasMade, LeavesTied, StandsFor};
+ghost use Rattle.dbpl_stored_run.specs.Leaving.{ChangesStore};
+ghost use Rattle.dbpl_stored_run.specs.Statements.{before_zero as bytes_before_zero};
+ghost use Rattle.dbpl_value.specs.declared.bound.Bound.{Bound};
+ghost use Rattle.dbpl_world.specs.Counts.{OnlySayFaults, Rose};
+ghost use Rattle.dbpl_world.specs.History.{now};
+ghost use Rattle.dbpl_world.specs.Moments.{EachMoment};
+
+use crate::body_err::BodyErr;
+use dbpl_world::{Failed, World, say_all};
+
+/// Says these bytes.
+pub(crate) fn print<W: World>(world: &mut W, bytes: &[u8]) -> Result<(), BodyErr>
+    ensures moments { IsTrue W.tells → (database : List Bound) → StandsFor database (now (W.history world.old)) →
+        EachMoment (LeavesTied (map Out bytes.now) database (now (W.history world.old))) (W.history world.old) (W.history world.new) }
+    ensures made { IsTrue W.tells → (database : List Bound) → StandsFor database (now (W.history world.old)) →
+        OnOk result (HasMade (map Out bytes.now) database (now (W.history world.old)) (now (W.history world.new))) }
+    ensures disk { IsTrue W.tells → (now (W.history world.new)).disk ≡ (now (W.history world.old)).disk }
+    ensures only { IsTrue W.tells → EachMoment (ChangesStore (now (W.history world.old))) (W.history world.old) (W.history world.new) }
+    ensures same { W.mounted world.new ≡ W.mounted world.old }
+    ensures counts { OnlySayFaults (W.counts world.old) (W.counts world.new) }
+    ensures cause { OnErr result (Rose (W.counts world.old).say_faults (W.counts world.new).say_faults) }
+    ensures err { IfErr result (λ why. why ≡ BodyErr.OutFault) }
+{
+    match say_all(world, bytes) {
+        Ok(()) => Ok(()),
+        Err(Failed) => Err(BodyErr::OutFault),
+    }
+}
+
+/// The bytes before the first byte 0.
+pub(crate) fn before_zero(text: &[u8]) -> &[u8]
+    ensures { result.now ≡ bytes_before_zero text.now }
+{
+    let (printed, _) = text.split_at(length_before_zero(text));
+    printed
+}
+
+fn length_before_zero(text: &[u8]) -> usize
+    ensures within { result ≤ length text.now }
+    ensures value { result ≡ position_or_len (λ byte. byte == 0) text.now }
+{
+    text.iter().take_while(|byte| **byte != 0).count()
+}

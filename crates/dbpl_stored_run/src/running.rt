@@ -1,0 +1,79 @@
+//! A run of a program over the mounted store.
+ghost use Rattle.std.specs.Prelude.{◌≡◌, ◌⊎◌, ℕ, Err, IfErr, IsSome, IsTrue, List, None, OnOk};
+ghost use Rattle.dbpl_core.specs.Meaning.{Ended, Trapped};
+ghost use Rattle.dbpl_core.specs.Programs.{is_small_program};
+ghost use Rattle.dbpl_core.specs.Whole.{events_of, whole};
+ghost use Rattle.dbpl_core.specs.declared.trap.Trap.{Trap as AnyTrap};
+ghost use Rattle.dbpl_database.specs.Binding.{Binds, Differs};
+ghost use Rattle.dbpl_log.specs.Records.{HasHead};
+ghost use Rattle.dbpl_store.specs.Stands.{LeavesOld, stands};
+ghost use Rattle.dbpl_stored_run.specs.Answers.{HasOther, HasRun, IsDue, IsRefusal, ReadsAs};
+ghost use Rattle.dbpl_stored_run.specs.Headline.{HasMade, LeavesTied, StandsFor};
+ghost use Rattle.dbpl_stored_run.specs.Leaving.{ChangesStore, OnlyRunFaults};
+ghost use Rattle.dbpl_stored_run.specs.declared.stop_err.StopErr.TheVariants as errors;
+ghost use Rattle.dbpl_value.specs.declared.bound.Bound.{Bound};
+ghost use Rattle.dbpl_world.specs.Counts.{Rose};
+ghost use Rattle.dbpl_world.specs.History.{now};
+ghost use Rattle.dbpl_world.specs.Moments.{EachMoment};
+
+use crate::StopErr;
+use crate::statements::run_body;
+use dbpl_core::StoredProgram;
+use dbpl_store::open;
+use dbpl_world::World;
+use std::alloc::Global;
+
+/// Opens the mounted store, binds the program's relation variable, and does the statements of its body. Where it traps the
+/// store is let go of, with nothing of the transaction.
+pub fn run_stored<W: World>(
+    alloc: Global,
+    program: &StoredProgram,
+    world: &mut W,
+) -> Result<(), StopErr>
+    requires mounted { IsSome (W.mounted world.old) }
+    requires small { IsTrue (is_small_program program.now) }
+
+    // THE HEADLINE: at every moment some prefix of the program's events has as its prints the bytes said, and as its last
+    // commit what a stop then leaves. A run that ends or traps has made them all.
+    ensures headline { IsTrue W.tells → (database bound : List Bound) → StandsFor database (now (W.history world.old)) → Binds program.now.relation database bound →
+        EachMoment (LeavesTied (events_of program.now bound) database (now (W.history world.old))) (W.history world.old) (W.history world.new) }
+    ensures whole { IsTrue W.tells → (database bound : List Bound) → ReadsAs database (now (W.history world.old)) → Binds program.now.relation database bound →
+        OnOk result (HasMade (events_of program.now bound) database (now (W.history world.old)) (now (W.history world.new))) }
+    ensures whole_trapped { IsTrue W.tells → (database bound : List Bound) → ReadsAs database (now (W.history world.old)) → Binds program.now.relation database bound →
+        (trap : AnyTrap) → result ≡ Err (errors.Trapped trap) → HasMade (events_of program.now bound) database (now (W.history world.old)) (now (W.history world.new)) }
+    ensures complete { IsTrue W.tells → (database bound : List Bound) → ReadsAs database (now (W.history world.old)) → Binds program.now.relation database bound →
+        (Rose (W.counts world.old).disk_faults (W.counts world.new).disk_faults → ⊥) → (Rose (W.counts world.old).say_faults (W.counts world.new).say_faults → ⊥) →
+        IsDue (whole program.now bound).stands result }
+
+    // When each answer comes.
+    ensures ended { OnOk result (HasRun program.now Ended W.tells (W.history world.old) (W.history world.new)) }
+    ensures trapped { (trap : AnyTrap) → result ≡ Err (errors.Trapped trap) → HasRun program.now (Trapped trap) W.tells (W.history world.old) (W.history world.new) }
+    ensures not_store { IsTrue W.tells → result ≡ Err errors.NotStore → HasHead (now (W.history world.old)).disk.log.now → ⊥ }
+    ensures not_store_where { IsTrue W.tells → (HasHead (now (W.history world.old)).disk.log.now → ⊥) →
+        (result ≡ Err errors.NotStore) ⊎ (result ≡ Err errors.DiskFault) }
+    ensures damaged { IsTrue W.tells → (page : ℕ) → result ≡ Err (errors.Damaged page) → (page ≡ 0)
+        × HasHead (now (W.history world.old)).disk.log.now
+        × (stands (now (W.history world.old)).disk.log.now (now (W.history world.old)).disk.pages.now ≡ None) }
+    ensures damaged_where { IsTrue W.tells → HasHead (now (W.history world.old)).disk.log.now →
+        stands (now (W.history world.old)).disk.log.now (now (W.history world.old)).disk.pages.now ≡ None →
+        (result ≡ Err (errors.Damaged 0)) ⊎ ((result ≡ Err errors.DiskFault) ⊎ (result ≡ Err errors.Memory)) }
+    ensures differs { result ≡ Err errors.SchemaDiffers → HasOther program.now.relation W.tells (W.history world.old) }
+    ensures differs_where { IsTrue W.tells → (database : List Bound) → ReadsAs database (now (W.history world.old)) → Differs program.now.relation database →
+        (result ≡ Err errors.SchemaDiffers) ⊎ ((result ≡ Err errors.DiskFault) ⊎ (result ≡ Err errors.Memory)) }
+    ensures disk_fault { result ≡ Err errors.DiskFault → Rose (W.counts world.old).disk_faults (W.counts world.new).disk_faults }
+    ensures out_fault { result ≡ Err errors.OutFault → Rose (W.counts world.old).say_faults (W.counts world.new).say_faults }
+
+    // What is left as it was.
+    ensures refused { IsTrue W.tells → IfErr result (λ why. IsRefusal why → EachMoment (LeavesOld (now (W.history world.old))) (W.history world.old) (W.history world.new)) }
+    ensures only { IsTrue W.tells → EachMoment (ChangesStore (now (W.history world.old))) (W.history world.old) (W.history world.new) }
+    ensures same { W.mounted world.new ≡ W.mounted world.old }
+    ensures counts { OnlyRunFaults (W.counts world.old) (W.counts world.new) }
+{
+    let mut store = open(alloc, world)?;
+    let is_bound = store.bind(alloc, &program.relation)?;
+    if !is_bound {
+        return Err(StopErr::SchemaDiffers);
+    }
+    run_body(alloc, program, &mut store, world)?;
+    Ok(())
+}

@@ -1,0 +1,82 @@
+//! The transaction of a program, over an open store.
+ghost use Rattle.std.specs.Prelude.{◌≡◌, [], ◌∷◌, false, true, Err, IsSome, IsTrue, Ok, OnOk};
+ghost use Rattle.dbpl_core.specs.Meaning.{Ended, Trapped, with_named};
+ghost use Rattle.dbpl_core.specs.Programs.{is_small_program};
+ghost use Rattle.dbpl_core.specs.Events.{last};
+ghost use Rattle.dbpl_core.specs.Whole.{transacted_by};
+ghost use Rattle.dbpl_core.specs.declared.action.Action.TheVariants.{Transact};
+ghost use Rattle.dbpl_core.specs.declared.trap.Trap.{Trap as AnyTrap};
+ghost use Rattle.dbpl_store.specs.Stores.{IsBoundTo, IsOpen, committed_of, database_in, is_running};
+ghost use Rattle.dbpl_stored_run.specs.Headline.{HasMade, LeavesTied};
+ghost use Rattle.dbpl_stored_run.specs.Leaving.{ChangesStore};
+ghost use Rattle.dbpl_stored_run.specs.Statements.{events_by, standing_by};
+ghost use Rattle.dbpl_value.specs.declared.value.Value.{Value};
+ghost use Rattle.dbpl_world.specs.Counts.{OnlyDiskFaults, Rose};
+ghost use Rattle.dbpl_world.specs.History.{now};
+ghost use Rattle.dbpl_world.specs.Moments.{EachMoment};
+
+use crate::body_err::BodyErr;
+use dbpl_core::{RunErr, StoredProgram, transacted};
+use dbpl_store::Store;
+use dbpl_world::{Failed, World};
+use std::alloc::Global;
+
+/// Calls the transaction. Where one of its statements traps, nothing is committed.
+pub(crate) fn transact<W: World>(
+    alloc: Global,
+    program: &StoredProgram,
+    store: &mut Store,
+    world: &mut W,
+) -> Result<(), BodyErr>
+    requires mounted { IsSome (W.mounted world.old) }
+    requires small { IsTrue (is_small_program program.now) }
+    requires still { is_running store.old ≡ false }
+    requires bound { IsBoundTo program.now.relation store.old }
+    ensures moments { IsTrue W.tells → IsOpen (now (W.history world.old)) store.old →
+        EachMoment (LeavesTied (events_by program.now (Transact ∷ []) (database_in store.old)) (committed_of store.old) (now (W.history world.old)))
+        (W.history world.old) (W.history world.new) }
+    ensures made { IsTrue W.tells → IsOpen (now (W.history world.old)) store.old →
+        OnOk result (HasMade (events_by program.now (Transact ∷ []) (database_in store.old)) (committed_of store.old) (now (W.history world.old)) (now (W.history world.new))) }
+    ensures ended { OnOk result (standing_by program.now (Transact ∷ []) (database_in store.old) ≡ Ended) }
+    ensures trapped { (trap : AnyTrap) → result ≡ Err (BodyErr.Trapped trap) → standing_by program.now (Transact ∷ []) (database_in store.old) ≡ Trapped trap }
+    ensures made_trapped { IsTrue W.tells → IsOpen (now (W.history world.old)) store.old → (trap : AnyTrap) → result ≡ Err (BodyErr.Trapped trap) →
+        HasMade (events_by program.now (Transact ∷ []) (database_in store.old)) (committed_of store.old) (now (W.history world.old)) (now (W.history world.new)) }
+
+    // The store after it.
+    ensures opened { IsTrue W.tells → IsOpen (now (W.history world.old)) store.old → OnOk result (IsOpen (now (W.history world.new)) store.new) }
+    ensures committed { OnOk result (committed_of store.new ≡ last (events_by program.now (Transact ∷ []) (database_in store.old)) (committed_of store.old)) }
+    ensures database { OnOk result (database_in store.new ≡ last (events_by program.now (Transact ∷ []) (database_in store.old)) (database_in store.old)) }
+    ensures bound { OnOk result (IsBoundTo program.now.relation store.new) }
+    ensures still { OnOk result (is_running store.new ≡ false) }
+
+    ensures only { IsTrue W.tells → EachMoment (ChangesStore (now (W.history world.old))) (W.history world.old) (W.history world.new) }
+    ensures same { W.mounted world.new ≡ W.mounted world.old }
+    ensures counts { OnlyDiskFaults (W.counts world.old) (W.counts world.new) }
+    ensures disk_fault { result ≡ Err BodyErr.DiskFault → Rose (W.counts world.old).disk_faults (W.counts world.new).disk_faults }
+    ensures no_out_fault { result ≡ Err BodyErr.OutFault → ⊥ }
+{
+    change(alloc, program, store)?;
+    match store.commit(world) {
+        Ok(()) => Ok(()),
+        Err(Failed) => Err(BodyErr::DiskFault),
+    }
+}
+
+/// Begins the transaction, and does its statements in memory.
+fn change(alloc: Global, program: &StoredProgram, store: &mut Store) -> Result<(), RunErr>
+    requires small { IsTrue (is_small_program program.now) }
+    requires still { is_running store.old ≡ false }
+    requires bound { IsBoundTo program.now.relation store.old }
+    ensures ok { OnOk result ((relation : Value) × (transacted_by program.now (database_in store.old) ≡ Ok relation)
+        × (database_in store.new ≡ with_named program.now.relation.name relation (database_in store.old))) }
+    ensures trap { (trap : AnyTrap) → result ≡ Err (RunErr.Trap trap) → transacted_by program.now (database_in store.old) ≡ Err trap }
+    ensures bound { OnOk result (IsBoundTo program.now.relation store.new) }
+    ensures running { is_running store.new ≡ true }
+    ensures committed { committed_of store.new ≡ committed_of store.old }
+    ensures log { store.new.log ≡ store.old.log }
+{
+    store.begin();
+    let after = transacted(alloc, program, store.whole())?;
+    store.replace_all(alloc, after)?;
+    Ok(())
+}
