@@ -186,7 +186,7 @@ pub record GoesOn (less further : Outcome) : Type 0 where
   pub extends : GoesFrom less.events further.events
   pub stays : (less.stands ≡ Going → ⊥) → further ≡ less
 
-outcomes :
+pub outcomes :
     (others : ℕ) (ran further : Ran (Unit {0})) → Follows others ran further → GoesOn (outcome_of ran) (outcome_of further)
 outcomes others (Done value state) further follows = rw follows.2 (record { extends = none-from state.events; stays = λ h. refl })
 outcomes others (Stops Going state) (Done value later) follows = record { extends = follows; stays = λ h. absurd (h refl) }

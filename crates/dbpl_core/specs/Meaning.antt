@@ -113,6 +113,10 @@ insertion_meaning field insertion = do
 abbrev pub transaction_meaning : StoredProgram → Doing (Unit {0})
 transaction_meaning program = transaction (map (insertion_meaning program.relation) program.insertions)
 
+-- the bytes of a string before the first byte 0
+abbrev pub before_zero : List ℕ → List ℕ
+before_zero text = before_first (λ byte. byte == 0) text
+
 -- WriteLn prints byte 10, WriteString the bytes of its string before the first byte 0.
 abbrev pub prints_bytes : List ℕ → Doing (Unit {0})
 prints_bytes bytes = makes (map Out bytes)
@@ -120,7 +124,7 @@ prints_bytes bytes = makes (map Out bytes)
 abbrev pub action_meaning : StoredProgram → Action → Doing (Unit {0})
 action_meaning program Transact = turn (transaction_meaning program)
 action_meaning program WriteLn = turn (prints_bytes (10 ∷ []))
-action_meaning program (WriteString text) = turn (prints_bytes (before_first (λ byte. byte == 0) text))
+action_meaning program (WriteString text) = turn (prints_bytes (before_zero text))
 
 abbrev pub body_meaning : StoredProgram → Doing (Unit {0})
 body_meaning program = turn (block (map (action_meaning program) program.body))

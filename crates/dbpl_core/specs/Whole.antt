@@ -1,9 +1,8 @@
 -- All that a program does, whatever the number of turns.
-use Rattle.std.specs.Prelude.{ℕ, suc, ◌==◌, List, [], ◌∷◌, ◌++◌, map, length, Result, Ok, Err}
-use Rattle.std.specs.List.{before_first}
+use Rattle.std.specs.Prelude.{ℕ, suc, List, [], ◌∷◌, ◌++◌, map, length, Result, Ok, Err}
 use Rattle.dbpl_core.specs.Events.{Commit, Event, Out}
 use Rattle.dbpl_core.specs.Insertions.{inserted_all}
-use Rattle.dbpl_core.specs.Meaning.{Ended, Outcome, Trapped, meaning, relation_named, with_named}
+use Rattle.dbpl_core.specs.Meaning.{Ended, Outcome, Trapped, before_zero, meaning, relation_named, with_named}
 use Rattle.dbpl_core.specs.declared.action.Action.{Action}
 use Rattle.dbpl_core.specs.declared.action.Action.TheVariants.{Transact, WriteLn, WriteString}
 use Rattle.dbpl_core.specs.declared.stored_program.StoredProgram.{StoredProgram}
@@ -46,4 +45,4 @@ comes_to program (Transact ∷ actions) database =
     (comes_to program actions (with_named program.relation.name relation database)))
 comes_to program (WriteLn ∷ actions) database = after_events (Out 10 ∷ []) (comes_to program actions database)
 comes_to program (WriteString text ∷ actions) database =
-    after_events (map Out (before_first (λ byte. byte == 0) text)) (comes_to program actions database)
+    after_events (map Out (before_zero text)) (comes_to program actions database)

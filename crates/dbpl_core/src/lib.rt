@@ -5,6 +5,7 @@ mod action;
 mod forms;
 mod insertion;
 mod laws;
+mod printing;
 mod run_err;
 mod set_err;
 mod sets;
@@ -19,6 +20,7 @@ pub use laws::{
     events_join, flat_type_is_kept, meaning_by_statements, meaning_is_steady, meaning_is_whole,
     variable_has_one_place,
 };
+pub use printing::before_zero;
 pub use run_err::RunErr;
 pub use set_err::SetErr;
 pub use sets::set_of;

@@ -1,4 +1,2 @@
-pub mod Causes
-pub mod MeaningLaws
-pub mod Moments
-pub mod Rows
+pub mod Noting
+pub mod Requests

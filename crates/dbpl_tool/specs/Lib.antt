@@ -1,5 +1,2 @@
-pub mod Answers
-pub mod Events
-pub mod Headline
-pub mod Meaning
-pub mod Sources
+pub mod Notes
+pub mod Wholes

@@ -2,13 +2,9 @@
 #![tactic(auto)]
 
 mod command;
-mod laws;
-mod printing;
-mod running;
-mod sources;
+mod working;
 
 pub use command::dbpl;
-pub use laws::meaning_is_steady;
 
 #[cfg(test)]
 mod tests;

@@ -1,0 +1,5 @@
+pub mod Causes
+pub mod MeaningLaws
+pub mod Moments
+pub mod NoteLaw
+pub mod Rows

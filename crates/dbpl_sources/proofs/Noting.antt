@@ -1,0 +1,28 @@
+-- A report that is noted behind the work.
+use Rattle.std.proofs.Common.{◌≡◌, ◌∙◌, ℕ, List, IsTrue, ap, map, subst, sym}
+use Rattle.dbpl_sources.specs.Work.{Work}
+use Rattle.dbpl_world.specs.Counts.{OnlyNoteFaults, Rose}
+use Rattle.dbpl_world.specs.History.{History, Noted, more}
+use Rattle.dbpl_world.specs.declared.counts.Counts.{Counts}
+
+-- the work with its report noted behind it
+abbrev pub reported : Work → History → Counts → Work
+reported work after counts = record work { after = after; counts_after = counts }
+
+-- Bytes were noted behind the work, where the world tells, and no counts rose but those of notes.
+pub record IsNotedBehind (work : Work) (after : History) (counts : Counts) : Type 0 where
+  pub notes : IsTrue work.tells → (bytes : List ℕ) × (after ≡ more work.after (map Noted bytes))
+  pub only : OnlyNoteFaults work.counts_after counts
+
+module _ (work : Work) (after : History) (counts : Counts) (noted : IsNotedBehind work after counts) where
+  same_disk : counts.disk_faults ≡ work.counts_after.disk_faults
+  same_disk = ap (λ (c : Counts). c.disk_faults) noted.only.others
+
+  same_say : counts.say_faults ≡ work.counts_after.say_faults
+  same_say = ap (λ (c : Counts). c.say_faults) noted.only.others
+
+  pub disk_rose : Rose work.counts_before.disk_faults work.counts_after.disk_faults → Rose work.counts_before.disk_faults counts.disk_faults
+  disk_rose rose = subst (Rose work.counts_before.disk_faults) (sym same_disk) rose
+
+  pub say_rose : Rose work.counts_before.say_faults work.counts_after.say_faults → Rose work.counts_before.say_faults counts.say_faults
+  say_rose rose = subst (Rose work.counts_before.say_faults) (sym same_say) rose

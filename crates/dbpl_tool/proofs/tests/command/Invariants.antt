@@ -1,5 +1,0 @@
--- The counter is of the ledger that the blank opens.
-use Rattle.dbpl_tool.proofs.tests.command.Given as goal
-
-abbrev pub ghosts-counted : goal.ghosts-counted
-ghosts-counted a = record { name = a.blank.name; parts = a.blank.parts }

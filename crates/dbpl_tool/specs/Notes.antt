@@ -1,0 +1,26 @@
+-- What is noted of a command, and which counts it may raise.
+use Rattle.std.specs.Prelude.{◌≡◌, ◌⊎◌, ◌≤◌, ℕ, List, ◌++◌, take}
+use Rattle.dbpl_base.specs.Report.{report}
+use Rattle.dbpl_base.specs.declared.status.Status.{Status}
+use Rattle.dbpl_world.specs.Counts.{Rose}
+use Rattle.dbpl_world.specs.History.{State}
+use Rattle.dbpl_world.specs.declared.counts.Counts.{Counts}
+
+-- The bytes are the report of this answer, or a front of it where a note failed.
+abbrev pub Reports : Counts → Counts → Status → List ℕ → Type 0
+Reports counts_before counts_after status noted =
+    (noted ≡ report status)
+    ⊎ ((count : ℕ) × (noted ≡ take count (report status)) × Rose counts_before.note_faults counts_after.note_faults)
+
+-- What was noted since these bytes is so.
+pub record NotedSince (before : List ℕ) (P : List ℕ → Type 0) (s : State) : Type 0 where
+  pub noted : List ℕ
+  pub is : s.noted ≡ before ++ noted
+  pub holds : P noted
+
+-- Of all counts only those of failed prints and notes and of faults of the disk may have risen.
+pub record OnlyCommandFaults (old new : Counts) : Type 0 where
+  pub others : new ≡ record old { say_faults = new.say_faults; note_faults = new.note_faults; disk_faults = new.disk_faults }
+  pub say_later : old.say_faults ≤ new.say_faults
+  pub note_later : old.note_faults ≤ new.note_faults
+  pub disk_later : old.disk_faults ≤ new.disk_faults
