@@ -7,4 +7,6 @@ mod working;
 pub use command::dbpl;
 
 #[cfg(test)]
+mod store_tests;
+#[cfg(test)]
 mod tests;

@@ -263,7 +263,7 @@ fn a_file_past_the_limit(rt: HostRuntime) -> Result<(), Fail> {
     Ok(())
 }
 
-/// The command over a shelf with that text as `hello.mod` alone.
+/// The command over a shelf with that text as `hello.mod` alone, and a world without stores.
 fn command(
     alloc: Global,
     words: &[&[u8]],
@@ -271,24 +271,43 @@ fn command(
     fails: &[u64],
     fetches_fail: &[u64],
 ) -> Result<(Status, MemoryWorld), Fail> {
+    let mut shelf = shelf_of(alloc, &[(b"hello.mod", text)], fetches_fail)?;
+    let mut world = MemoryWorld::make(alloc, b"", fails, 1_000_000)?;
+    let status = command_over(alloc, words, &mut shelf, &mut world)?;
+    Ok((status, world))
+}
+
+/// A shelf with files of these names and texts.
+pub fn shelf_of(
+    alloc: Global,
+    texts: &[(&[u8], &[u8])],
+    fetches_fail: &[u64],
+) -> Result<MemoryShelf, Fail> {
+    let mut files = Vec::new(alloc);
+    for (name, text) in texts {
+        files.push((Vec::from_slice(alloc, name)?, Vec::from_slice(alloc, text)?))?;
+    }
+    Ok(MemoryShelf::make(alloc, files.as_slice(), fetches_fail)?)
+}
+
+/// The command with these words.
+pub fn command_over(
+    alloc: Global,
+    words: &[&[u8]],
+    shelf: &mut MemoryShelf,
+    world: &mut MemoryWorld,
+) -> Result<Status, Fail> {
     let mut names = List::new(alloc);
     for word in words {
         names.push(name_of(alloc, word)?)?;
     }
-    let file = (
-        Vec::from_slice(alloc, b"hello.mod")?,
-        Vec::from_slice(alloc, text)?,
-    );
-    let mut shelf = MemoryShelf::make(alloc, &[file], fetches_fail)?;
-    let mut world = MemoryWorld::make(alloc, b"", fails, 1_000_000)?;
-    let status = counted::<Brand>(
+    Ok(counted::<Brand>(
         alloc,
         names.as_slice(),
-        &mut shelf,
-        &mut world,
+        shelf,
+        world,
         Blank::new(1),
-    );
-    Ok((status, world))
+    ))
 }
 
 fn counted<L: Ledger>(
