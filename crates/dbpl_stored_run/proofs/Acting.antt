@@ -3,7 +3,7 @@ use Rattle.std.proofs.Common.{◌≡◌, ◌∙◌, ℕ, List, [], ◌∷◌, �
 use Rattle.std.specs.Prelude.{OnOk}
 use Rattle.dbpl_core.proofs.Events.{last-outs}
 use Rattle.dbpl_core.specs.Events.{Event, Out, last}
-use Rattle.dbpl_core.specs.Meaning.{Ended}
+use Rattle.dbpl_core.specs.Meaning.{Ended, before_zero}
 use Rattle.dbpl_core.specs.declared.action.Action.{Action}
 use Rattle.dbpl_core.specs.declared.action.Action.TheVariants.{Transact, WriteLn, WriteString}
 use Rattle.dbpl_core.specs.declared.stored_program.StoredProgram.{StoredProgram}
@@ -12,7 +12,7 @@ use Rattle.dbpl_store.specs.declared.store.Store.{Store}
 use Rattle.dbpl_stored_run.proofs.Steps.{written-events}
 use Rattle.dbpl_stored_run.proofs.Stores.{open-kept, open-stands}
 use Rattle.dbpl_stored_run.specs.Headline.{HasMade, LeavesTied, StandsFor}
-use Rattle.dbpl_stored_run.specs.Statements.{before_zero, events_by, standing_by}
+use Rattle.dbpl_stored_run.specs.Statements.{events_by, standing_by}
 use Rattle.dbpl_stored_run.specs.declared.body_err.BodyErr.{BodyErr}
 use Rattle.dbpl_value.specs.declared.bound.Bound.{Bound}
 use Rattle.dbpl_world.specs.History.{History, now}

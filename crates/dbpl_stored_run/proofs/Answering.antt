@@ -24,7 +24,8 @@ use Rattle.dbpl_world.specs.declared.counts.Counts.{Counts}
 pub handed : {T E : Type 0} (answer : Result T E) (why : E) → IsErrAnd answer (λ error. error ≡ why) → answer ≡ Err why
 handed {E = E} answer why given = let p = err_from_is_err_and answer given in p.1 ∙ ap (λ (e : E). Err e) p.2
 
-err-inside : {T : Type 0} (answer : Result T StopErr) (why other : StopErr) → answer ≡ Err why → answer ≡ Err other → why ≡ other
+-- an answer has one error
+pub err-inside : {T E : Type 0} (answer : Result T E) (why other : E) → answer ≡ Err why → answer ≡ Err other → why ≡ other
 err-inside answer why other first second = let both = sym first ∙ second in cc
 
 -- ---- an opening that failed
@@ -172,8 +173,8 @@ module _ (program : StoredProgram) (bound : List Bound) where
       by_why body_errors.Memory trapped disk out = due-memory
 
 -- no Ok
-pub no-ok : {T E A : Type 0} (answer : Result T E) (why : E) → answer ≡ Err why → OnOk answer A
-no-ok {T = T} {E = E} {A = A} answer why is = subst (λ (a : Result T E). OnOk a A) (sym is) tt
+pub no-ok : {T E : Type 0} (A : Type 0) (answer : Result T E) (why : E) → answer ≡ Err why → OnOk answer A
+no-ok {T = T} {E = E} A answer why is = subst (λ (a : Result T E). OnOk a A) (sym is) tt
 
 -- so of every error
 pub every-err : {T E : Type 0} {P : E → Type 0} (answer : Result T E) → ((why : E) → P why) → IfErr answer P
@@ -224,20 +225,20 @@ module _ {T X : Type 0} (answer : Result T StopErr) (opened : Result X StoreErr)
 
 -- ---- a body that stopped refuses nothing
 
-pub unrefused : {T A : Type 0} (answer : Result T StopErr) (why : BodyErr) → answer ≡ Err (of_body why) → IfErr answer (λ w. IsRefusal w → A)
-unrefused {T = T} {A = A} answer why is =
+pub unrefused : {T : Type 0} (A : Type 0) (answer : Result T StopErr) (why : BodyErr) → answer ≡ Err (of_body why) → IfErr answer (λ w. IsRefusal w → A)
+unrefused {T = T} A answer why is =
     subst (λ (a : Result T StopErr). IfErr a (λ w. IsRefusal w → A)) (sym is) (λ refusal. absurd (of-body why refusal))
 
 -- ---- a print that failed
 
-module _ {A T : Type 0} (answer : Result T BodyErr) (failed : IfErr answer (λ why. why ≡ body_errors.OutFault)) where
+module _ {T : Type 0} (answer : Result T BodyErr) (failed : IfErr answer (λ why. why ≡ body_errors.OutFault)) where
   printed-why : (why : BodyErr) → answer ≡ Err why → why ≡ body_errors.OutFault
   printed-why why is = subst (λ (a : Result T BodyErr). IfErr a (λ w. w ≡ body_errors.OutFault)) is failed
 
-  pub printed-no_trap : (trap : Trap) → answer ≡ Err (body_errors.Trapped trap) → A
+  pub printed-no_trap : {A : Type 0} (trap : Trap) → answer ≡ Err (body_errors.Trapped trap) → A
   printed-no_trap trap is = let why = printed-why (body_errors.Trapped trap) is in absurd cc
 
-  pub printed-no_disk_fault : answer ≡ Err body_errors.DiskFault → A
+  pub printed-no_disk_fault : {A : Type 0} → answer ≡ Err body_errors.DiskFault → A
   printed-no_disk_fault is = let why = printed-why body_errors.DiskFault is in absurd cc
 
 -- what holds holds after Ok, and what an error shows that error shows

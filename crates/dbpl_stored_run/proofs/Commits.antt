@@ -11,6 +11,7 @@ use Rattle.dbpl_core.specs.declared.trap.Trap.{Trap}
 use Rattle.dbpl_store.specs.Stands.{IsEither, LeavesDatabase}
 use Rattle.dbpl_store.specs.Stores.{IsOpen, committed_of, database_in}
 use Rattle.dbpl_store.specs.declared.store.Store.{Store}
+use Rattle.dbpl_stored_run.proofs.Answering.{err-inside}
 use Rattle.dbpl_stored_run.proofs.Steps.{trapped-events, transacted-ended, transacted-events}
 use Rattle.dbpl_stored_run.proofs.Stores.{open-stands}
 use Rattle.dbpl_stored_run.proofs.Tying.{made-none, moments-commit}
@@ -68,9 +69,6 @@ module _ (program : StoredProgram) (before changed : Store) (done : IsDone progr
         })
 
 -- ---- a transaction that was not done
-
-err-inside : {T E : Type 0} (answer : Result T E) (why other : E) → answer ≡ Err why → answer ≡ Err other → why ≡ other
-err-inside answer why other first second = let both = sym first ∙ second in cc
 
 pub was-trap :
     {T : Type 0} (answer : Result T BodyErr) (why : RunErr) → answer ≡ Err (of_transaction why) → (trap : Trap) →

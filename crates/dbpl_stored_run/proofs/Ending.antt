@@ -180,29 +180,29 @@ module _ (field : Field) (opened bound : Store) (is_bound : Bool) (s : State)
     (binds : MatchBool is_bound (Binds field (database_in opened) (database_in bound) × IsBoundTo field bound)
     (Differs field (database_in opened) × (database_in bound ≡ database_in opened))) where
   pub matched-true : is_bound ≡ true → Binds field (database_in opened) (database_in bound) × IsBoundTo field bound
-  matched-true yes = subst (λ (b : Bool). MatchBool b (Binds field (database_in opened) (database_in bound) × IsBoundTo field bound)
-      (Differs field (database_in opened) × (database_in bound ≡ database_in opened))) yes binds
+  matched-true so = subst (λ (b : Bool). MatchBool b (Binds field (database_in opened) (database_in bound) × IsBoundTo field bound)
+      (Differs field (database_in opened) × (database_in bound ≡ database_in opened))) so binds
 
   matched-false : is_bound ≡ false → Differs field (database_in opened)
-  matched-false no =
+  matched-false not =
       let both = subst (λ (b : Bool). MatchBool b (Binds field (database_in opened) (database_in bound) × IsBoundTo field bound)
-      (Differs field (database_in opened) × (database_in bound ≡ database_in opened))) no binds in
+      (Differs field (database_in opened) × (database_in bound ≡ database_in opened))) not binds in
       both.0
 
   pub has-other :
       (tells : Bool) (h : History) → is_bound ≡ false → database_in opened ≡ committed_of opened →
       (IsTrue tells → ReadsAs (committed_of opened) (now h)) → HasOther field tells h
-  has-other tells h no same reads = record {
+  has-other tells h not same reads = record {
     database = database_in opened;
     stood = λ told. subst (λ (d : List Bound). ReadsAs d (now h)) (sym same) (reads told);
-    differs = matched-false no;
+    differs = matched-false not;
   }
 
   pub other-unbound :
       {A : Type 0} → is_bound ≡ false → database_in opened ≡ committed_of opened → ReadsAs (committed_of opened) s →
       (database after : List Bound) → ReadsAs database s → Binds field database after → A
-  other-unbound no same read database after reads there =
+  other-unbound not same read database after reads there =
       let one : database_in opened ≡ database =
       same ∙ stands-one s.disk.log.now s.disk.pages.now (committed_of opened) database read reads in
-      absurd (not-both field (database_in opened) after (matched-false no)
+      absurd (not-both field (database_in opened) after (matched-false not)
       (subst (λ (d : List Bound). Binds field d after) (sym one) there))

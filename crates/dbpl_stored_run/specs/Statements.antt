@@ -1,6 +1,5 @@
 -- What one statement of the body does.
-use Rattle.std.specs.Prelude.{ℕ, List, [], ◌∷◌, ◌==◌}
-use Rattle.std.specs.List.{before_first}
+use Rattle.std.specs.Prelude.{List}
 use Rattle.dbpl_core.specs.Events.{Event}
 use Rattle.dbpl_core.specs.Meaning.{Outcome, Standing}
 use Rattle.dbpl_core.specs.Whole.{comes_to}
@@ -15,7 +14,3 @@ events_by program actions database = (comes_to program actions database).events
 -- how they end
 abbrev pub standing_by : StoredProgram → List Action → List Bound → Standing
 standing_by program actions database = (comes_to program actions database).stands
-
--- the bytes of a string that are printed
-abbrev pub before_zero : List ℕ → List ℕ
-before_zero text = before_first (λ byte. byte == 0) text

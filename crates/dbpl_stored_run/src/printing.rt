@@ -1,10 +1,8 @@
 //! What a statement prints: each byte is said by a call of its own.
-ghost use Rattle.std.specs.Prelude.{◌≡◌, ◌==◌, ◌≤◌, List, length, map, IfErr, IsTrue, OnErr, OnOk};
-ghost use Rattle.std.specs.List.{position_or_len};
+ghost use Rattle.std.specs.Prelude.{◌≡◌, List, map, IfErr, IsTrue, OnErr, OnOk};
 ghost use Rattle.dbpl_core.specs.Events.{Out};
 ghost use Rattle.dbpl_stored_run.specs.Headline.{HasMade, LeavesTied, StandsFor};
 ghost use Rattle.dbpl_stored_run.specs.Leaving.{ChangesStore};
-ghost use Rattle.dbpl_stored_run.specs.Statements.{before_zero as bytes_before_zero};
 ghost use Rattle.dbpl_value.specs.declared.bound.Bound.{Bound};
 ghost use Rattle.dbpl_world.specs.Counts.{OnlySayFaults, Rose};
 ghost use Rattle.dbpl_world.specs.History.{now};
@@ -30,19 +28,4 @@ pub(crate) fn print<W: World>(world: &mut W, bytes: &[u8]) -> Result<(), BodyErr
         Ok(()) => Ok(()),
         Err(Failed) => Err(BodyErr::OutFault),
     }
-}
-
-/// The bytes before the first byte 0.
-pub(crate) fn before_zero(text: &[u8]) -> &[u8]
-    ensures { result.now ≡ bytes_before_zero text.now }
-{
-    let (printed, _) = text.split_at(length_before_zero(text));
-    printed
-}
-
-fn length_before_zero(text: &[u8]) -> usize
-    ensures within { result ≤ length text.now }
-    ensures value { result ≡ position_or_len (λ byte. byte == 0) text.now }
-{
-    text.iter().take_while(|byte| **byte != 0).count()
 }

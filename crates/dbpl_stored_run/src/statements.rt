@@ -13,9 +13,9 @@ ghost use Rattle.dbpl_world.specs.History.{now};
 ghost use Rattle.dbpl_world.specs.Moments.{EachMoment};
 
 use crate::body_err::BodyErr;
-use crate::printing::{before_zero, print};
+use crate::printing::print;
 use crate::transacting::transact;
-use dbpl_core::{Action, StoredProgram};
+use dbpl_core::{Action, StoredProgram, before_zero};
 use dbpl_store::Store;
 use dbpl_world::World;
 use std::alloc::Global;

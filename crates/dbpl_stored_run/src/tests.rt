@@ -105,9 +105,9 @@ fn insertion(alloc: Global, line: u32, rows: Rows) -> Result<Insertion, Memory> 
 
 fn insertions(alloc: Global, sets: &[Rows]) -> Result<List<Insertion>, Memory> {
     let mut made = List::new(alloc);
-    let mut line = 0;
+    let mut line: u32 = 0;
     for rows in sets {
-        line += 1;
+        line = line.saturating_add(1);
         made.push(insertion(alloc, line, rows)?)?;
     }
     Ok(made)
@@ -171,7 +171,7 @@ fn a_record_is_kept_once(rt: HostRuntime) -> Result<(), Fail> {
     // The second run writes nothing: it makes the calls of the first without the four writes and two syncs of a commit.
     let before = world.calls();
     assert_eq!(rt; run(alloc, &mut world, &[&[[1, 5]]]), Some(Ok(())));
-    assert_eq!(rt; (first, world.calls() - before), (15, 8));
+    assert_eq!(rt; (first, world.calls().checked_sub(before)), (15, Some(8)));
     assert!(rt; is_log(alloc, &mut world, KEPT));
     assert!(rt; world.said() == b"ab\nab\n".as_slice());
     Ok(())

@@ -24,20 +24,20 @@ returns-in-Ok-clause-only g c = λ told.
     said-only (g.W.World.history c.args.world.now) (g.W.World.history c.say_all.new.world) c.args.bytes.now
     (c.in-Ok.ensures.ok told)
 
-pub returns-in-Err-clause-moments : goal.returns-clause-moments
+pub returns-in-Err-clause-moments : goal.returns-in-Err-clause-moments
 returns-in-Err-clause-moments g c = λ told database stood.
     let bytes = c.args.bytes.now in
     let front = c.in-Err.ensures.err told in
     said-moments database (g.W.World.history c.args.world.now) (g.W.World.history c.say_all.new.world) bytes
     (take front.0 bytes) (drop front.0 bytes) stood (sym (take-append-drop front.0 bytes)) front.1
 
-pub returns-in-Err-clause-disk : goal.returns-clause-disk
+pub returns-in-Err-clause-disk : goal.returns-in-Err-clause-disk
 returns-in-Err-clause-disk g c = λ told.
     let front = c.in-Err.ensures.err told in
     said-disk (g.W.World.history c.args.world.now) (g.W.World.history c.say_all.new.world)
     (take front.0 c.args.bytes.now) front.1
 
-pub returns-in-Err-clause-only : goal.returns-clause-only
+pub returns-in-Err-clause-only : goal.returns-in-Err-clause-only
 returns-in-Err-clause-only g c = λ told.
     let front = c.in-Err.ensures.err told in
     said-only (g.W.World.history c.args.world.now) (g.W.World.history c.say_all.new.world)

@@ -1,5 +1,6 @@
 -- A run that began has the store's database and what its variable is bound to; one that didn't leaves what was there.
 use Rattle.std.proofs.Common.{◌≡◌, ◌∙◌, inl, inr, Err, ap, refl, sym}
+use Rattle.dbpl_core.proofs.Programs.{small-kept}
 use Rattle.dbpl_core.specs.Meaning.{Ended, Trapped}
 use Rattle.dbpl_core.specs.Whole.{events_of}
 use Rattle.dbpl_store.specs.Stores.{committed_of, database_in}
@@ -14,6 +15,9 @@ use Rattle.dbpl_world.proofs.CountLaws.{rose_since}
 use Rattle.dbpl_world.specs.History.{now}
 use Rattle.dbpl_stored_run.proofs.running.run_stored.Goals as goal
 
+pub bind-requires : goal.bind-requires
+bind-requires g c = record { kept = small-kept c.args.program.now c.requires.small }
+
 -- ---- the store was not opened
 
 pub returns-in_err-store-clause-headline : goal.returns-in_err-store-clause-headline
@@ -24,7 +28,7 @@ returns-in_err-store-clause-headline g c =
 pub returns-in_err-store-clause-whole : goal.returns-in_err-store-clause-whole
 returns-in_err-store-clause-whole g c =
     let is = handed c.from_residual.result _ c.from_residual.ensures.1 in
-    λ told database bound reads binds. no-ok c.from_residual.result _ is
+    λ told database bound reads binds. no-ok _ c.from_residual.result _ is
 
 pub returns-in_err-store-clause-whole_trapped : goal.returns-in_err-store-clause-whole_trapped
 returns-in_err-store-clause-whole_trapped g c =
@@ -43,7 +47,7 @@ returns-in_err-store-clause-complete g c =
 pub returns-in_err-store-clause-ended : goal.returns-in_err-store-clause-ended
 returns-in_err-store-clause-ended g c =
     let is = handed c.from_residual.result _ c.from_residual.ensures.1 in
-    no-ok c.from_residual.result _ is
+    no-ok _ c.from_residual.result _ is
 
 pub returns-in_err-store-clause-trapped : goal.returns-in_err-store-clause-trapped
 returns-in_err-store-clause-trapped g c =
@@ -118,7 +122,7 @@ returns-in_err-is_bound-clause-headline g c =
 pub returns-in_err-is_bound-clause-whole : goal.returns-in_err-is_bound-clause-whole
 returns-in_err-is_bound-clause-whole g c =
     let is = handed c.from_residual-in_err-is_bound.result _ c.from_residual-in_err-is_bound.ensures.1 in
-    λ told database bound reads binds. no-ok c.from_residual-in_err-is_bound.result _ is
+    λ told database bound reads binds. no-ok _ c.from_residual-in_err-is_bound.result _ is
 
 pub returns-in_err-is_bound-clause-whole_trapped : goal.returns-in_err-is_bound-clause-whole_trapped
 returns-in_err-is_bound-clause-whole_trapped g c =
@@ -133,7 +137,7 @@ returns-in_err-is_bound-clause-complete g c =
 pub returns-in_err-is_bound-clause-ended : goal.returns-in_err-is_bound-clause-ended
 returns-in_err-is_bound-clause-ended g c =
     let is = handed c.from_residual-in_err-is_bound.result _ c.from_residual-in_err-is_bound.ensures.1 in
-    no-ok c.from_residual-in_err-is_bound.result _ is
+    no-ok _ c.from_residual-in_err-is_bound.result _ is
 
 pub returns-in_err-is_bound-clause-trapped : goal.returns-in_err-is_bound-clause-trapped
 returns-in_err-is_bound-clause-trapped g c =
@@ -251,7 +255,7 @@ returns-in_err-run_body-clause-headline g c =
 pub returns-in_err-run_body-clause-whole : goal.returns-in_err-run_body-clause-whole
 returns-in_err-run_body-clause-whole g c =
     let is = handed c.from_residual-in_err-run_body.result _ c.from_residual-in_err-run_body.ensures.1 in
-    λ told database bound reads binds. no-ok c.from_residual-in_err-run_body.result _ is
+    λ told database bound reads binds. no-ok _ c.from_residual-in_err-run_body.result _ is
 
 pub returns-in_err-run_body-clause-whole_trapped : goal.returns-in_err-run_body-clause-whole_trapped
 returns-in_err-run_body-clause-whole_trapped g c =
@@ -290,7 +294,7 @@ returns-in_err-run_body-clause-complete g c =
 pub returns-in_err-run_body-clause-ended : goal.returns-in_err-run_body-clause-ended
 returns-in_err-run_body-clause-ended g c =
     let is = handed c.from_residual-in_err-run_body.result _ c.from_residual-in_err-run_body.ensures.1 in
-    no-ok c.from_residual-in_err-run_body.result _ is
+    no-ok _ c.from_residual-in_err-run_body.result _ is
 
 pub returns-in_err-run_body-clause-trapped : goal.returns-in_err-run_body-clause-trapped
 returns-in_err-run_body-clause-trapped g c =
@@ -376,7 +380,7 @@ returns-in_err-run_body-clause-out_fault g c =
 pub returns-in_err-run_body-clause-refused : goal.returns-in_err-run_body-clause-refused
 returns-in_err-run_body-clause-refused g c =
     let is = handed c.from_residual-in_err-run_body.result _ c.from_residual-in_err-run_body.ensures.1 in
-    λ told. unrefused c.from_residual-in_err-run_body.result _ is
+    λ told. unrefused _ c.from_residual-in_err-run_body.result _ is
 
 pub returns-in_err-run_body-clause-only : goal.returns-in_err-run_body-clause-only
 returns-in_err-run_body-clause-only g c =

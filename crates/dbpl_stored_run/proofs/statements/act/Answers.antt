@@ -1,9 +1,9 @@
 -- Each statement by its kind.
 use Rattle.std.proofs.Common.{◌∙◌, ap, refl}
+use Rattle.dbpl_core.specs.Meaning.{before_zero}
 use Rattle.dbpl_store.specs.Stores.{committed_of, database_in}
 use Rattle.dbpl_stored_run.proofs.Acting.{printed-last, printed-made, printed-moments, printed-open, prints-line, prints-text}
 use Rattle.dbpl_stored_run.proofs.Answering.{after-ok, disk-counts, on-this, printed-no_disk_fault, printed-no_trap, say-counts}
-use Rattle.dbpl_stored_run.specs.Statements.{before_zero}
 use Rattle.dbpl_stored_run.proofs.statements.act.Goals as goal
 
 pub returns-in-WriteLn-clause-moments : goal.returns-in-WriteLn-clause-moments
@@ -144,7 +144,7 @@ pub returns-in-Transact-clause-made_trapped : goal.returns-in-Transact-clause-ma
 returns-in-Transact-clause-made_trapped g c = rw c.in-Transact.is c.transact.ensures.made_trapped
 
 pub returns-in-Transact-clause-opened : goal.returns-in-Transact-clause-opened
-returns-in-Transact-clause-opened g c = rw c.in-Transact.is c.transact.ensures.opened
+returns-in-Transact-clause-opened g c = c.transact.ensures.opened
 
 pub returns-in-Transact-clause-committed : goal.returns-in-Transact-clause-committed
 returns-in-Transact-clause-committed g c = rw c.in-Transact.is c.transact.ensures.committed

@@ -128,10 +128,10 @@ returns-in_err-act-clause-out_fault g c = λ is.
     rose_since _ _ _ c.loop-action.invariant.counts.say_later (c.act.ensures.out_fault (same ∙ is))
 
 pub returns-in_err-act-clause-made : goal.returns-in_err-act-clause-made
-returns-in_err-act-clause-made g c = λ told opened. no-ok c.from_residual.result _ (handed c.from_residual.result _ c.from_residual.ensures.1)
+returns-in_err-act-clause-made g c = λ told opened. no-ok _ c.from_residual.result _ (handed c.from_residual.result _ c.from_residual.ensures.1)
 
 pub returns-in_err-act-clause-ended : goal.returns-in_err-act-clause-ended
-returns-in_err-act-clause-ended g c = no-ok c.from_residual.result _ (handed c.from_residual.result _ c.from_residual.ensures.1)
+returns-in_err-act-clause-ended g c = no-ok _ c.from_residual.result _ (handed c.from_residual.result _ c.from_residual.ensures.1)
 
 pub returns-in_err-act-clause-same : goal.returns-in_err-act-clause-same
 returns-in_err-act-clause-same g c = c.act.ensures.same ∙ c.loop-action.invariant.same

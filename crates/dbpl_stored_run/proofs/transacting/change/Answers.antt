@@ -1,11 +1,14 @@
 -- The variable that is bound is the one of the program's name.
-use Rattle.std.proofs.Common.{ap, sym, ◌∙◌, Err}
+use Rattle.std.proofs.Common.{◌∙◌, Err, ap}
+use Rattle.dbpl_core.specs.declared.run_err.RunErr.TheVariants as run_errors
+use Rattle.dbpl_stored_run.proofs.Answering.{err-inside, handed}
 use Rattle.dbpl_stored_run.proofs.Stores.{fits-in, fits-of, held-bound, put-is, some-bound, transacted-is}
 use Rattle.dbpl_stored_run.proofs.transacting.change.Goals as goal
 
 pub whole-requires : goal.whole-requires
-whole-requires c =
-    some-bound c.args.program.now.relation c.args.store.now c.begin.new.self c.begin.ensures.bound c.requires.bound
+whole-requires c = record {
+  bound = some-bound c.args.program.now.relation c.args.store.now c.begin.new.self c.begin.ensures.bound c.requires.bound;
+}
 
 pub transacted-requires-clause-relation : goal.transacted-requires-clause-relation
 transacted-requires-clause-relation c =
@@ -29,6 +32,12 @@ returns-clause-ok c = (
   put-is c.args.program.now.relation c.args.store.now c.begin.new.self c.replace_all.new.self c.in_ok-after.after
       c.requires.bound c.begin.ensures.database c.begin.ensures.bound c.in_ok-replace_all.ensures.ok,
 )
+
+pub returns-in_err-after-clause-trap : goal.returns-in_err-after-clause-trap
+returns-in_err-after-clause-trap c = λ trap is.
+    let why = err-inside c.from_residual.result _ (run_errors.Trap trap) (handed c.from_residual.result _ c.from_residual.ensures.1) is in
+    transacted-is c.args.program.now c.args.store.now c.begin.new.self c.whole.result.now (Err trap) c.requires.bound
+    c.begin.ensures.bound c.whole.ensures.whole (c.transacted.ensures.trap trap (c.in_err-after.was ∙ ap (λ e. Err e) why))
 
 pub returns-clause-bound : goal.returns-clause-bound
 returns-clause-bound c =

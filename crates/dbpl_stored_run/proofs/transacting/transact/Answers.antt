@@ -44,25 +44,25 @@ returns-in_err-change-clause-no_out_fault g c = λ is.
     was-no_out_fault c.from_residual.result _ (handed c.from_residual.result _ c.from_residual.ensures.1) is
 
 pub returns-in_err-change-clause-made : goal.returns-in_err-change-clause-made
-returns-in_err-change-clause-made g c = λ told opened. no-ok c.from_residual.result _ (handed c.from_residual.result _ c.from_residual.ensures.1)
+returns-in_err-change-clause-made g c = λ told opened. no-ok _ c.from_residual.result _ (handed c.from_residual.result _ c.from_residual.ensures.1)
 
 pub returns-in_err-change-clause-opened : goal.returns-in_err-change-clause-opened
-returns-in_err-change-clause-opened g c = λ told opened. no-ok c.from_residual.result _ (handed c.from_residual.result _ c.from_residual.ensures.1)
+returns-in_err-change-clause-opened g c = λ told opened. no-ok _ c.from_residual.result _ (handed c.from_residual.result _ c.from_residual.ensures.1)
 
 pub returns-in_err-change-clause-ended : goal.returns-in_err-change-clause-ended
-returns-in_err-change-clause-ended g c = no-ok c.from_residual.result _ (handed c.from_residual.result _ c.from_residual.ensures.1)
+returns-in_err-change-clause-ended g c = no-ok _ c.from_residual.result _ (handed c.from_residual.result _ c.from_residual.ensures.1)
 
 pub returns-in_err-change-clause-committed : goal.returns-in_err-change-clause-committed
-returns-in_err-change-clause-committed g c = no-ok c.from_residual.result _ (handed c.from_residual.result _ c.from_residual.ensures.1)
+returns-in_err-change-clause-committed g c = no-ok _ c.from_residual.result _ (handed c.from_residual.result _ c.from_residual.ensures.1)
 
 pub returns-in_err-change-clause-database : goal.returns-in_err-change-clause-database
-returns-in_err-change-clause-database g c = no-ok c.from_residual.result _ (handed c.from_residual.result _ c.from_residual.ensures.1)
+returns-in_err-change-clause-database g c = no-ok _ c.from_residual.result _ (handed c.from_residual.result _ c.from_residual.ensures.1)
 
 pub returns-in_err-change-clause-bound : goal.returns-in_err-change-clause-bound
-returns-in_err-change-clause-bound g c = no-ok c.from_residual.result _ (handed c.from_residual.result _ c.from_residual.ensures.1)
+returns-in_err-change-clause-bound g c = no-ok _ c.from_residual.result _ (handed c.from_residual.result _ c.from_residual.ensures.1)
 
 pub returns-in_err-change-clause-still : goal.returns-in_err-change-clause-still
-returns-in_err-change-clause-still g c = no-ok c.from_residual.result _ (handed c.from_residual.result _ c.from_residual.ensures.1)
+returns-in_err-change-clause-still g c = no-ok _ c.from_residual.result _ (handed c.from_residual.result _ c.from_residual.ensures.1)
 
 -- ---- it is committed
 

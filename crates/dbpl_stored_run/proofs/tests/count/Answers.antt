@@ -1,0 +1,16 @@
+-- The variable that was read can be kept.
+use Rattle.std.proofs.Common.{◌&&◌}
+use Rattle.std.specs.Cmp.{first_so}
+use Rattle.dbpl_database.specs.Databases.{are_small, is_kept}
+use Rattle.dbpl_value.specs.Values.{is_of}
+use Rattle.dbpl_stored_run.proofs.tests.count.Goals as goal
+
+pub bind-requires : goal.bind-requires
+bind-requires c =
+    let b = c.in_ok-name.field-0 in
+    record {
+      kept = rw (c.field_of.ensures.name, c.field_of.ensures.kind) (
+          first_so (is_kept b.name b.kind) (is_of b.kind b.rel)
+          (first_so (is_kept b.name b.kind && is_of b.kind b.rel) (are_small b.kind b.rel) c.in_ok-name.ensures)
+          );
+    }
