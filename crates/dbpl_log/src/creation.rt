@@ -29,13 +29,15 @@ pub fn create<W: World>(world: &mut W) -> Result<(), CreateErr>
     ensures writes { IsTrue W.tells → EachMoment (WritesLog (now (W.history world.old))) (W.history world.old) (W.history world.new) }
     ensures pages { IsTrue W.tells → OnOk result ((now (W.history world.new)).disk.pages ≡ settled (now (W.history world.old)).disk.pages.now) }
 
-    // Each refusal comes exactly where it says, but for faults.
+    // Each refusal comes exactly where it says, but for faults. What isn't free is left as it was, whatever the answer.
     ensures free { IsTrue W.tells → OnOk result (IsFree (now (W.history world.old)).disk) }
     ensures exists { IsTrue W.tells → result ≡ Err errors.Exists → HasHead (now (W.history world.old)).disk.log.now }
     ensures exists_where { IsTrue W.tells → HasHead (now (W.history world.old)).disk.log.now → (result ≡ Err errors.Exists) ⊎ (result ≡ Err errors.Disk) }
     ensures foreign { IsTrue W.tells → result ≡ Err errors.Foreign → IsForeign (now (W.history world.old)).disk }
     ensures foreign_where { IsTrue W.tells → IsForeign (now (W.history world.old)).disk → (result ≡ Err errors.Foreign) ⊎ (result ≡ Err errors.Disk) }
     ensures refused { IsTrue W.tells → (result ≡ Err errors.Exists) ⊎ (result ≡ Err errors.Foreign) →
+        EachMoment (LeavesLog (IsImage (now (W.history world.old)).disk.log) (now (W.history world.old))) (W.history world.old) (W.history world.new) }
+    ensures kept { IsTrue W.tells → (IsFree (now (W.history world.old)).disk → ⊥) →
         EachMoment (LeavesLog (IsImage (now (W.history world.old)).disk.log) (now (W.history world.old))) (W.history world.old) (W.history world.new) }
 
     ensures same { W.mounted world.new ≡ W.mounted world.old }

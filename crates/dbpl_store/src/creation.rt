@@ -24,7 +24,8 @@ pub fn create<W: World>(world: &mut W) -> Result<(), CreateErr>
     ensures pages { IsTrue W.tells → OnOk result ((now (W.history world.new)).disk.pages ≡ settled (now (W.history world.old)).disk.pages.now) }
     ensures writes { IsTrue W.tells → EachMoment (WritesLog (now (W.history world.old))) (W.history world.old) (W.history world.new) }
 
-    // Each refusal comes exactly where it says, but for faults, and leaves all as it was.
+    // Each refusal comes exactly where it says, but for faults, and leaves all as it was. So does any answer over what isn't
+    // free.
     ensures free { IsTrue W.tells → OnOk result (IsFree (now (W.history world.old)).disk) }
     ensures exists { IsTrue W.tells → result ≡ Err errors.Exists → HasHead (now (W.history world.old)).disk.log.now }
     ensures exists_where { IsTrue W.tells → HasHead (now (W.history world.old)).disk.log.now → (result ≡ Err errors.Exists) ⊎ (result ≡ Err errors.Disk) }
@@ -32,6 +33,7 @@ pub fn create<W: World>(world: &mut W) -> Result<(), CreateErr>
     ensures foreign_where { IsTrue W.tells → IsForeign (now (W.history world.old)).disk → (result ≡ Err errors.Foreign) ⊎ (result ≡ Err errors.Disk) }
     ensures refused { IsTrue W.tells → (result ≡ Err errors.Exists) ⊎ (result ≡ Err errors.Foreign) →
         EachMoment (LeavesOld (now (W.history world.old))) (W.history world.old) (W.history world.new) }
+    ensures kept { IsTrue W.tells → (IsFree (now (W.history world.old)).disk → ⊥) → EachMoment (LeavesOld (now (W.history world.old))) (W.history world.old) (W.history world.new) }
 
     ensures same { W.mounted world.new ≡ W.mounted world.old }
     ensures counts { OnlyDiskFaults (W.counts world.old) (W.counts world.new) }

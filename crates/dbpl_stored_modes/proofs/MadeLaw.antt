@@ -1,5 +1,5 @@
 -- Why the command that makes a store answers so.
-use Rattle.std.proofs.Common.{◌≡◌, ◌∙◌, ◌≢◌, ◌⊎◌, ◌≤◌, ◌<◌, ℕ, List, [], ◌∷◌, Some, Result, Ok, Err, OnOk, IsOk, IsTrue, ap, arith, inl, inr, length, refl, subst, sym}
+use Rattle.std.proofs.Common.{◌≡◌, ◌∙◌, ◌⊎◌, ◌≤◌, ◌<◌, ℕ, List, [], ◌∷◌, Some, Result, Ok, Err, OnOk, IsTrue, ap, arith, inl, inr, length, refl, subst, sym}
 use Rattle.dbpl_base.specs.declared.status.Status.{Status}
 use Rattle.dbpl_base.specs.declared.status.Status.TheVariants as status
 use Rattle.dbpl_log.specs.Beginning.{IsForeign, IsFree, begun}
@@ -7,12 +7,13 @@ use Rattle.dbpl_log.specs.Changes.{WritesLog}
 use Rattle.dbpl_log.specs.Records.{HasHead}
 use Rattle.dbpl_log.specs.declared.create_err.CreateErr.{CreateErr}
 use Rattle.dbpl_log.specs.declared.create_err.CreateErr.TheVariants as errors
+use Rattle.dbpl_sources.specs.Work.{Work}
 use Rattle.dbpl_store.specs.Beginning.{LeavesBegun, MayBegin, StandsEmpty}
-use Rattle.dbpl_store.specs.Stands.{LeavesOld, stands}
-use Rattle.dbpl_stored_modes.proofs.Mounting.{mounted_disk, mounted_name, mounted_said, mounted_then, rose_later}
-use Rattle.dbpl_stored_modes.specs.Creating.{Creates, IsBegun, IsCreateAnswer, IsUnlessFault}
+use Rattle.dbpl_store.specs.Stands.{LeavesOld}
+use Rattle.dbpl_stored_modes.proofs.Mounting.{changes_first, changes_there, moments_mounted, mounted_disk, mounted_name, mounted_said, mounted_state, mounted_then, rose_later}
+use Rattle.dbpl_stored_modes.specs.Creating.{Creates, answer_of, IsBegun, IsCreateAnswer, IsUnlessFault}
 use Rattle.dbpl_stored_modes.specs.Images.{EachImage, IsLeft, StandsThere}
-use Rattle.dbpl_stored_modes.specs.Work.{Work}
+use Rattle.dbpl_stored_modes.specs.Leaving.{ChangesOnly}
 use Rattle.dbpl_world.specs.Counts.{Rose}
 use Rattle.dbpl_world.specs.declared.counts.Counts.{Counts}
 use Rattle.dbpl_world.proofs.Moments.{moments_last, moments_start, moments_weaken, store_of_mounted}
@@ -102,13 +103,8 @@ pub record Made (tells : _) (mid new : History) (counts_mid counts_new : Counts)
   pub foreign : IsTrue tells → result ≡ Err errors.Foreign → IsForeign (now mid).disk
   pub foreign_where : IsTrue tells → IsForeign (now mid).disk → (result ≡ Err errors.Foreign) ⊎ (result ≡ Err errors.Disk)
   pub refused : IsTrue tells → (result ≡ Err errors.Exists) ⊎ (result ≡ Err errors.Foreign) → EachMoment (LeavesOld (now mid)) mid new
+  pub kept : IsTrue tells → (IsFree (now mid).disk → ⊥) → EachMoment (LeavesOld (now mid)) mid new
   pub cause : result ≡ Err errors.Disk → Rose counts_mid.disk_faults counts_new.disk_faults
-
-abbrev pub answer_of : Result (Unit {0}) CreateErr → Status
-answer_of (Ok done) = status.Done
-answer_of (Err errors.Exists) = status.Exists
-answer_of (Err errors.Foreign) = status.Foreign
-answer_of (Err errors.Disk) = status.DiskFault
 
 create_answer : (result : Result (Unit {0}) CreateErr) → IsCreateAnswer (answer_of result)
 create_answer (Ok done) = tt
@@ -192,7 +188,32 @@ module _ (name : List ℕ) (work : Work) (mid : History) (counts_mid : Counts) (
       by_answer status.Memory e = inr e
       by_answer _ e = absurd (subst IsCreateAnswer e (create_answer result))
 
-  pub creates : Creates name work (answer_of result)
+  -- no result is want of memory
+  never_wanting : (r : Result (Unit {0}) CreateErr) → answer_of r ≡ status.Memory → ⊥
+  never_wanting (Ok done) e = absurd (cc)
+  never_wanting (Err errors.Exists) e = absurd (cc)
+  never_wanting (Err errors.Foreign) e = absurd (cc)
+  never_wanting (Err errors.Disk) e = absurd (cc)
+
+  kept : IsTrue work.tells → (IsFree (store_of (now work.before) name) → ⊥) →
+      EachMoment (LeavesOnlyAt name (IsLeft (store_of (now work.before) name) (now work.before).said)) work.before work.after
+  kept told none = left_there name work.before mid (mount told) work.after (run.kept told (λ free. none (subst IsFree (disk told) free)))
+
+  only : IsTrue work.tells → EachMoment (ChangesOnly name (now work.before)) work.before work.after
+  only told =
+      moments_mounted name work.before mid (mount told) (ChangesOnly name (now work.before)) work.after (changes_first name (now work.before))
+      (moments_weaken (WritesLog (now mid)) (ChangesOnly name (now work.before)) mid work.after
+      (λ s changes. changes_there name work.before mid (mount told) s (ap (λ (t : State). t.input) changes.others)
+      (ap (λ (t : State). t.mounted) changes.others) (ap (λ (t : State). t.others) changes.others) changes.pages)
+      (run.writes told))
+
+  silent : IsTrue work.tells → EachMoment (λ s. s.said ≡ (now work.before).said) work.before work.after
+  silent told =
+      moments_mounted name work.before mid (mount told) (λ s. s.said ≡ (now work.before).said) work.after refl
+      (moments_weaken (WritesLog (now mid)) (λ s. s.said ≡ (now work.before).said) mid work.after
+      (λ s changes. ap (λ (t : State). t.said) changes.others ∙ mounted_said name work.before mid (mount told)) (run.writes told))
+
+  creates : Creates name work (answer_of result)
   creates = record {
     answers = create_answer result;
     moments = λ told may. begun_there name work.before mid (mount told) work.after may (run.moments told (may_there name work.before mid (mount told) may));
@@ -204,9 +225,23 @@ module _ (name : List ℕ) (work : Work) (mid : History) (counts_mid : Counts) (
     foreign_only = λ told e. subst IsForeign (disk told) (run.foreign told (is_foreign result e));
     foreign = foreign;
     refused = refused;
+    kept = kept;
+    wanting = λ told e. absurd (never_wanting result e);
+    silent = silent;
+    only = only;
     disk_fault = rose;
     complete = complete;
   }
+
+  pub creates_as : (answer : Status) → answer ≡ answer_of result → Creates name work answer
+  creates_as answer is = subst (Creates name work) (sym is) creates
+
+-- nothing was noted since before the store was mounted
+pub made_unnoted : (mid after : History) → EachMoment (WritesLog (now mid)) mid after → (name : List ℕ) (before : History) →
+    mid ≡ more before (Mounted name ∷ []) → (now after).noted ≡ (now before).noted
+made_unnoted mid after writes name before mount =
+    ap (λ (t : State). t.noted) (moments_last (WritesLog (now mid)) mid after writes).others
+    ∙ ap (λ (t : State). t.noted) (mounted_state name before mid mount)
 
 -- ---- a store that wasn't mounted
 
@@ -249,6 +284,16 @@ module _ (name : List ℕ) (work : Work) (answer : Status) (still : IsTrue work.
     foreign = λ told found. fault why status.Foreign;
     refused = λ told which.
         subst (λ (h : History). EachMoment (LeavesOnlyAt name (IsLeft (store_of (now work.before) name) (now work.before).said)) work.before h) (sym (still told)) (not_left name work.before);
+    kept = λ told none.
+        subst (λ (h : History). EachMoment (LeavesOnlyAt name (IsLeft (store_of (now work.before) name) (now work.before).said)) work.before h) (sym (still told)) (not_left name work.before);
+    wanting = λ told e.
+        subst (λ (h : History). EachMoment (LeavesOnlyAt name (IsLeft (store_of (now work.before) name) (now work.before).said)) work.before h) (sym (still told)) (not_left name work.before);
+    silent = λ told.
+        subst (λ (h : History). EachMoment (λ s. s.said ≡ (now work.before).said) work.before h) (sym (still told))
+        (moments_start (λ s. s.said ≡ (now work.before).said) work.before refl);
+    only = λ told.
+        subst (λ (h : History). EachMoment (ChangesOnly name (now work.before)) work.before h) (sym (still told))
+        (moments_start (ChangesOnly name (now work.before)) work.before (changes_first name (now work.before)));
     disk_fault = unmounted_rose why;
     complete = λ told free no_disk. unmounted_complete why no_disk;
   }

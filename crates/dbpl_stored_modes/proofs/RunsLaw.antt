@@ -1,21 +1,27 @@
 -- Why the command that runs two files over a store answers so.
-use Rattle.std.proofs.Common.{◌≡◌, ◌≢◌, ◌∙◌, ◌⊎◌, ◌≤◌, ◌<◌, ℕ, List, None, Some, Option, IfSome, IsSomeAnd, IsTrue, ap, arith, inl, inr, length, refl, subst, sym}
+use Rattle.std.proofs.Common.{◌≡◌, ◌∙◌, ◌⊎◌, ◌≤◌, ◌<◌, ℕ, List, None, Some, Option, IfSome, IsSomeAnd, IsTrue, ap, arith, inl, inr, length, refl, subst, sym}
 use Rattle.dbpl_base.specs.declared.limits.TheConstants.{SOURCE_BYTES}
 use Rattle.dbpl_base.specs.declared.place.Place.{Place}
 use Rattle.dbpl_base.specs.declared.status.Status.{Status}
 use Rattle.dbpl_base.specs.declared.status.Status.TheVariants as status
 use Rattle.dbpl_core.specs.declared.stored_program.StoredProgram.{StoredProgram}
+use Rattle.dbpl_sources.proofs.Noting.{still_notes}
 use Rattle.dbpl_sources.specs.Sources.{IsAbsent, IsTooLong, IsUnread}
+use Rattle.dbpl_sources.specs.Texts.{HasLongText, HasText, IsUnlessUnread, MayHave}
+use Rattle.dbpl_sources.specs.Work.{Work}
 use Rattle.dbpl_stored_form.proofs.TextLaw.{one_program, program_or_refusal}
 use Rattle.dbpl_stored_form.specs.Texts.{IsRefused, IsStored}
-use Rattle.dbpl_stored_modes.proofs.Mounting.{rose_later}
-use Rattle.dbpl_stored_modes.proofs.RunLaw.{still_left, still_runs}
-use Rattle.dbpl_stored_modes.specs.Reading.{IsNoProgram, IsRefusal, MayHave, ReadsProgram}
-use Rattle.dbpl_stored_modes.specs.Runs.{AreNone, HasLongText, HasText, IsOfFiles, IsProgramOf, IsUnlessUnread, Runs}
+use Rattle.dbpl_stored_modes.proofs.Mounting.{changes_first, rose_later}
+use Rattle.dbpl_stored_modes.proofs.RunLaw.{IsStill, still_left, still_runs}
+use Rattle.dbpl_stored_modes.specs.Leaving.{ChangesOnly}
+use Rattle.dbpl_stored_modes.specs.Reading.{IsNoProgram, IsRefusal, ReadsProgram}
+use Rattle.dbpl_stored_modes.specs.Runs.{AreNone, IsOfFiles, IsProgramOf, Runs}
 use Rattle.dbpl_stored_modes.specs.StoredRuns.{IsRunAnswer, IsUnrun, RunsStored}
-use Rattle.dbpl_stored_modes.specs.Work.{Work}
+use Rattle.dbpl_world.proofs.Moments.{moments_start}
 use Rattle.dbpl_world.specs.Counts.{Rose}
 use Rattle.dbpl_world.specs.Files.{Files, file_of}
+use Rattle.dbpl_world.specs.History.{History, now}
+use Rattle.dbpl_world.specs.Moments.{EachMoment}
 
 -- ---- one text of a file
 
@@ -125,8 +131,8 @@ module _ (store schema program : List ℕ) (work : Work) (answer : Status) (stil
 
   faulty : (stored : StoredProgram) → ((answer ≡ status.SourceFault) × Rose work.shelf_faults_before work.shelf_faults_after) ⊎ (answer ≡ status.Memory) →
       RunsStored store stored work answer
-  faulty stored (inl fault) = still_runs store stored work answer still_told (inr (inr (inl fault)))
-  faulty stored (inr memory) = still_runs store stored work answer still_told (inr (inr (inr memory)))
+  faulty stored (inl fault) = still_runs store stored work answer still_told (subst (IsStill store work) (sym fault.0) fault.1)
+  faulty stored (inr memory) = still_runs store stored work answer still_told (subst (IsStill store work) (sym memory) tt)
 
   runs : (stored : StoredProgram) → IsProgramOf work.files schema program stored → RunsStored store stored work answer
   runs stored of = by_cause cause
@@ -231,8 +237,27 @@ module _ (store schema program : List ℕ) (work : Work) (answer : Status) (stil
         by_cause (inr (inl unread)) = inr (fault_of (unread_fault work.files program program_text _ _ answer program_has unread.2))
         by_cause (inr (inr refusal)) = refusal_of answer (here refusal.0 refusal.1 answer refusal.2 refusal.3 refusal.4)
 
+  -- which faults there may be
+  source_fault : answer ≡ status.SourceFault → Rose work.shelf_faults_before work.shelf_faults_after
+  source_fault e = by_cause cause
+    where
+      by_cause : IsNoProgram work.files schema program work.shelf_faults_before work.shelf_faults_after answer → Rose work.shelf_faults_before work.shelf_faults_after
+      by_cause (inl unread) = subst (IsUnread work.files schema work.shelf_faults_before work.shelf_faults_after) e unread
+      by_cause (inr (inl unread)) = subst (IsUnread work.files program work.shelf_faults_before work.shelf_faults_after) e unread.2
+      by_cause (inr (inr refusal)) = absurd (subst (IsRefusal refusal.0 refusal.1) e refusal.4)
+
+  no_cause : (due : Status) → ((file : List ℕ) → IsUnread work.files file work.shelf_faults_before work.shelf_faults_after due → ⊥) →
+      ((first second : List ℕ) → IsRefusal first second due → ⊥) → answer ≡ due → ⊥
+  no_cause due unread_never refused_never e = by_cause cause
+    where
+      by_cause : IsNoProgram work.files schema program work.shelf_faults_before work.shelf_faults_after answer → ⊥
+      by_cause (inl unread) = unread_never schema (subst (IsUnread work.files schema work.shelf_faults_before work.shelf_faults_after) e unread)
+      by_cause (inr (inl unread)) = unread_never program (subst (IsUnread work.files program work.shelf_faults_before work.shelf_faults_after) e unread.2)
+      by_cause (inr (inr refusal)) = refused_never refusal.0 refusal.1 (subst (IsRefusal refusal.0 refusal.1) e refusal.4)
+
   pub unread_runs : Runs store schema program work answer
   unread_runs = record {
+    caused = inl (cause, still_notes work still_told);
     runs = runs;
     absent_only = absent_only;
     absent_schema = absent_schema;
@@ -243,6 +268,12 @@ module _ (store schema program : List ℕ) (work : Work) (answer : Status) (stil
     refused_only = λ place rule e schema_text program_text schema_has program_has. refused_only schema_text program_text schema_has program_has place rule e;
     refused = λ schema_text program_text none. refused schema_text program_text none.schema_has none.program_has;
     unread = λ told quiet. still_left store work still_told told;
+    only = λ told.
+        subst (λ (h : History). EachMoment (ChangesOnly store (now work.before)) work.before h) (sym still)
+        (moments_start (ChangesOnly store (now work.before)) work.before (changes_first store (now work.before)));
+    source_fault = source_fault;
+    disk_fault = λ e. absurd (no_cause status.DiskFault (λ file unread. unread) (λ first second refusal. refusal) e);
+    out_fault = λ e. absurd (no_cause status.OutFault (λ file unread. unread) (λ first second refusal. refusal) e);
   }
 
 -- ---- a program
@@ -274,6 +305,7 @@ module _ (store schema program : List ℕ) (work : Work) (answer : Status) (read
 
   pub read_runs : Runs store schema program work answer
   read_runs = record {
+    caused = inr (read, reads, ran);
     runs = λ stored of. subst (λ (p : StoredProgram). RunsStored store p work answer) (the_program stored of) ran;
     absent_only = λ name e. absurd (not_of_files ran.answers (status.Absent name) e);
     absent_schema = λ told. absurd (absent_not_there work.files schema reads.schema_text told reads.schema_has.told);
@@ -284,4 +316,8 @@ module _ (store schema program : List ℕ) (work : Work) (answer : Status) (read
     refused_only = λ place rule e schema_text program_text schema_has program_has. absurd (not_of_files ran.answers (status.Refused place rule) e);
     refused = λ schema_text program_text none. absurd (not_none schema_text program_text none);
     unread = λ told quiet. ran.unrun told (quiet_unrun answer ran.answers quiet);
+    only = ran.only;
+    source_fault = ran.source_fault;
+    disk_fault = ran.disk_fault;
+    out_fault = ran.out_fault;
   }

@@ -1,6 +1,6 @@
 pub mod Creating
 pub mod Images
+pub mod Leaving
 pub mod Reading
 pub mod Runs
 pub mod StoredRuns
-pub mod Work

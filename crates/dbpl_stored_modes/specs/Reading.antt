@@ -1,17 +1,12 @@
 -- What is read of the files of a command, whether they are told or not.
-use Rattle.std.specs.Prelude.{◌≡◌, ◌⊎◌, ℕ, ◌≤◌, IfSome, List, Option, Some, length}
-use Rattle.dbpl_base.specs.declared.limits.TheConstants.{SOURCE_BYTES}
+use Rattle.std.specs.Prelude.{◌⊎◌, ℕ, List, Option}
 use Rattle.dbpl_base.specs.declared.status.Status.{Status}
 use Rattle.dbpl_base.specs.declared.status.Status.TheVariants as status
 use Rattle.dbpl_core.specs.declared.stored_program.StoredProgram.{StoredProgram}
 use Rattle.dbpl_sources.specs.Sources.{IsUnread}
+use Rattle.dbpl_sources.specs.Texts.{MayHave}
 use Rattle.dbpl_stored_form.specs.Texts.{IsRefused, IsStored}
-use Rattle.dbpl_world.specs.Files.{Files, file_of}
-
--- Where the files are told, this one has this text. It keeps the limit.
-pub record MayHave (files : Option Files) (file text : List ℕ) : Type 0 where
-  pub told : IfSome files (λ files. file_of files file ≡ Some text)
-  pub within : length text ≤ SOURCE_BYTES
+use Rattle.dbpl_world.specs.Files.{Files}
 
 -- The two files may have texts that are this program.
 pub record ReadsProgram (files : Option Files) (schema program : List ℕ) (stored : StoredProgram) : Type 0 where

@@ -1,6 +1,5 @@
 -- What a run of a program over the store of a name answers, and what was said and stored at each moment.
-use Rattle.std.specs.Prelude.{◌≡◌, ◌≢◌, ◌⊎◌, ◌++◌, ◌∷◌, [], ℕ, IsTrue, List, None, Some}
-use Rattle.dbpl_base.specs.declared.place.Place.{Place}
+use Rattle.std.specs.Prelude.{◌≡◌, ◌≢◌, ◌⊎◌, ◌++◌, ◌∷◌, [], ℕ, IsTrue, List, None, Some, Err, Ok, Result}
 use Rattle.dbpl_base.specs.declared.status.Status.{Status}
 use Rattle.dbpl_base.specs.declared.status.Status.TheVariants as status
 use Rattle.dbpl_core.specs.Events.{Event, last, prints}
@@ -12,7 +11,8 @@ use Rattle.dbpl_database.specs.Binding.{Binds, Differs}
 use Rattle.dbpl_log.specs.Records.{HasHead}
 use Rattle.dbpl_store.specs.Stands.{stands}
 use Rattle.dbpl_stored_modes.specs.Images.{IsLeft, ReadsThere, StandsThere}
-use Rattle.dbpl_stored_modes.specs.Work.{Work}
+use Rattle.dbpl_sources.specs.Work.{OnlyNotes, Work}
+use Rattle.dbpl_stored_modes.specs.Leaving.{ChangesOnly}
 use Rattle.dbpl_stored_run.specs.Headline.{IsTied}
 use Rattle.dbpl_stored_run.specs.declared.stop_err.StopErr.{StopErr}
 use Rattle.dbpl_stored_run.specs.declared.stop_err.StopErr.TheVariants as errors
@@ -45,6 +45,11 @@ pub record HasOther (store : List ℕ) (work : Work) (stored : StoredProgram) : 
 -- The store stands for this database before the run, and that is what it is once the program's variable is bound to it.
 pub record RunsOver (store : List ℕ) (work : Work) (stored : StoredProgram) (database bound : List Bound) : Type 0 where
   pub stands_for : StandsThere store (now work.before) database
+  pub binds : Binds stored.relation database bound
+
+-- A read of the store gives this database before the run, and that is what it is once the program's variable is bound to it.
+pub record ReadsOver (store : List ℕ) (work : Work) (stored : StoredProgram) (database bound : List Bound) : Type 0 where
+  pub reads : ReadsThere store (now work.before) database
   pub binds : Binds stored.relation database bound
 
 -- All events were made: what they print was said behind the bytes before, and the parts stand for the database of the last
@@ -89,34 +94,33 @@ IsUnrun _ = ⊥
 abbrev pub IsUnlessUnopened : Status → Status → Type 0
 IsUnlessUnopened answer due = (answer ≡ due) ⊎ ((answer ≡ status.SourceFault) ⊎ ((answer ≡ status.DiskFault) ⊎ (answer ≡ status.Memory)))
 
--- the answer of a run that stopped so; the name in it may want memory
-abbrev pub IsStatusOf : StoredProgram → StopErr → Status → Type 0
-IsStatusOf stored (errors.Trapped trap) answer = answer ≡ status.Trapped trap.kind trap.place
-IsStatusOf stored errors.NotStore answer = answer ≡ status.NotStore
-IsStatusOf stored (errors.Damaged page) answer = answer ≡ status.Damaged page
-IsStatusOf stored errors.SchemaDiffers answer = (answer ≡ status.SchemaDiffers stored.relation.name) ⊎ (answer ≡ status.Memory)
-IsStatusOf stored errors.DiskFault answer = answer ≡ status.DiskFault
-IsStatusOf stored errors.OutFault answer = answer ≡ status.OutFault
-IsStatusOf stored errors.Memory answer = answer ≡ status.Memory
+-- the answer where a run went so; the name in it may want memory
+abbrev pub IsAnswer : StoredProgram → Result (Unit {0}) StopErr → Status → Type 0
+IsAnswer stored (Ok done) answer = answer ≡ status.Done
+IsAnswer stored (Err (errors.Trapped trap)) answer = answer ≡ status.Trapped trap.kind trap.place
+IsAnswer stored (Err errors.NotStore) answer = answer ≡ status.NotStore
+IsAnswer stored (Err (errors.Damaged page)) answer = answer ≡ status.Damaged page
+IsAnswer stored (Err errors.SchemaDiffers) answer = (answer ≡ status.SchemaDiffers stored.relation.name) ⊎ (answer ≡ status.Memory)
+IsAnswer stored (Err errors.DiskFault) answer = answer ≡ status.DiskFault
+IsAnswer stored (Err errors.OutFault) answer = answer ≡ status.OutFault
+IsAnswer stored (Err errors.Memory) answer = answer ≡ status.Memory
 
 -- THE run of this program over the store of this name: its answer, what it said, and what it did to the store.
 pub record RunsStored (store : List ℕ) (stored : StoredProgram) (work : Work) (answer : Status) : Type 0 where
   pub answers : IsRunAnswer answer
-
   -- THE HEADLINE: at every moment some prefix of the program's events has as its prints the bytes said, and as its last
   -- commit what a stop then leaves.
   pub headline : IsTrue work.tells → (database bound : List Bound) → RunsOver store work stored database bound →
       EachMoment (LeavesOnlyAt store (IsTied (events_of stored bound) database (now work.before).said)) work.before work.after
   -- A run that ends or traps has made them all, and the meaning ends or traps so.
-  pub done : IsTrue work.tells → (database bound : List Bound) → RunsOver store work stored database bound →
+  pub done : IsTrue work.tells → (database bound : List Bound) → ReadsOver store work stored database bound →
       answer ≡ status.Done → HasRun store work stored database bound Ended
-  pub trapped : IsTrue work.tells → (database bound : List Bound) → RunsOver store work stored database bound →
+  pub trapped : IsTrue work.tells → (database bound : List Bound) → ReadsOver store work stored database bound →
       (trap : Trap) → answer ≡ status.Trapped trap.kind trap.place → HasRun store work stored database bound (Trapped trap)
   -- Where no fault comes it does so, but for want of memory.
-  pub complete : IsTrue work.tells → (database bound : List Bound) → RunsOver store work stored database bound → store ≢ no_store →
+  pub complete : IsTrue work.tells → (database bound : List Bound) → ReadsOver store work stored database bound → store ≢ no_store →
       (Rose work.shelf_faults_before work.shelf_faults_after → ⊥) → (Rose work.counts_before.disk_faults work.counts_after.disk_faults → ⊥) →
       (Rose work.counts_before.say_faults work.counts_after.say_faults → ⊥) → IsDueAnswer (whole stored bound).stands answer ⊎ (answer ≡ status.Memory)
-
   -- Each refusal comes exactly where it belongs, but for faults and want of memory, and nothing was said or stored.
   pub not_store_only : IsTrue work.tells → answer ≡ status.NotStore → HasNone store work
   pub not_store : IsTrue work.tells → HasNone store work → IsUnlessUnopened answer status.NotStore
@@ -126,6 +130,14 @@ pub record RunsStored (store : List ℕ) (stored : StoredProgram) (work : Work) 
   pub differs : IsTrue work.tells → HasOther store work stored → IsUnlessUnopened answer (status.SchemaDiffers stored.relation.name)
   pub unrun : IsTrue work.tells → IsUnrun answer →
       EachMoment (LeavesOnlyAt store (IsLeft (store_of (now work.before) store) (now work.before).said)) work.before work.after
+
+  -- A store to which the program doesn't bind stays as it was, and nothing is said, whatever the answer.
+  pub unbound : IsTrue work.tells → ((database bound : List Bound) → ReadsOver store work stored database bound → ⊥) →
+      EachMoment (LeavesOnlyAt store (IsLeft (store_of (now work.before) store) (now work.before).said)) work.before work.after
+  -- For the name that stands for no store nothing is done at all, and the disk isn't asked.
+  pub unnamed : store ≡ no_store → OnlyNotes work × (answer ≢ status.DiskFault)
+  -- Nothing but this store and the bytes said changes.
+  pub only : IsTrue work.tells → EachMoment (ChangesOnly store (now work.before)) work.before work.after
 
   -- Faults come with their counts.
   pub source_fault : answer ≡ status.SourceFault → Rose work.shelf_faults_before work.shelf_faults_after

@@ -1,8 +1,9 @@
 //! The command that makes an empty store.
-ghost use Rattle.std.specs.Prelude.{ℕ, Option};
-ghost use Rattle.dbpl_stored_modes.specs.Creating.{Creates};
+ghost use Rattle.std.specs.Prelude.{◌≡◌, ℕ, IsTrue, Option};
+ghost use Rattle.dbpl_stored_modes.specs.Creating.{Creates, answer_of};
 ghost use Rattle.dbpl_world.specs.Counts.{OnlyDiskFaults};
 ghost use Rattle.dbpl_world.specs.Files.{Files};
+ghost use Rattle.dbpl_world.specs.History.{now};
 
 use dbpl_base::Status;
 use dbpl_store::{CreateErr, create};
@@ -21,6 +22,7 @@ pub fn create_store<W: World>(alloc: Global, store: &str, world: &mut W) -> Stat
       counts_before = W.counts world.old;
       counts_after = W.counts world.new;
     }) result }
+    ensures unnoted { IsTrue W.tells → (now (W.history world.new)).noted ≡ (now (W.history world.old)).noted }
     ensures counts { OnlyDiskFaults (W.counts world.old) (W.counts world.new) }
 {
     match world.mount(alloc, store) {
@@ -28,7 +30,14 @@ pub fn create_store<W: World>(alloc: Global, store: &str, world: &mut W) -> Stat
         Err(MountErr::Failed) => return Status::DiskFault,
         Err(MountErr::Memory) => return Status::Memory,
     }
-    match create(world) {
+    status_of(create(world))
+}
+
+/// The answer where making a store went so.
+fn status_of(made: Result<(), CreateErr>) -> Status
+    ensures { result ≡ answer_of made }
+{
+    match made {
         Ok(()) => Status::Done,
         Err(CreateErr::Exists) => Status::Exists,
         Err(CreateErr::Foreign) => Status::Foreign,

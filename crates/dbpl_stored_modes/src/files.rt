@@ -5,6 +5,7 @@ ghost use Rattle.dbpl_stored_form.specs.Texts.{IsStored};
 ghost use Rattle.dbpl_stored_modes.specs.Reading.{IsNoProgram, IsRefusal, ReadsProgram};
 ghost use Rattle.dbpl_stored_modes.specs.Runs.{Runs};
 ghost use Rattle.dbpl_stored_run.specs.Leaving.{OnlyRunFaults};
+ghost use Rattle.dbpl_world.specs.History.{now};
 
 use crate::running::run_over;
 use dbpl_base::{SOURCE_BYTES, Status};
@@ -34,6 +35,7 @@ pub fn run_files<W: World, S: Shelf>(
       counts_before = W.counts world.old;
       counts_after = W.counts world.new;
     }) result }
+    ensures unnoted { IsTrue W.tells → (now (W.history world.new)).noted ≡ (now (W.history world.old)).noted }
     ensures counts { OnlyRunFaults (W.counts world.old) (W.counts world.new) }
     ensures files { S.files shelf.new ≡ S.files shelf.old }
     ensures faults { S.shelf_faults shelf.old ≤ S.shelf_faults shelf.new }

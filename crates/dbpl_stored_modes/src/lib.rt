@@ -7,3 +7,6 @@ mod running;
 
 pub use creating::create_store;
 pub use files::run_files;
+
+#[cfg(test)]
+mod tests;

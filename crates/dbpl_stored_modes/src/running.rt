@@ -1,9 +1,10 @@
 //! A run of a program over the store of a name.
-ghost use Rattle.std.specs.Prelude.{ℕ, IsTrue, Option};
+ghost use Rattle.std.specs.Prelude.{◌≡◌, ℕ, IsTrue, Option};
 ghost use Rattle.dbpl_core.specs.Programs.{is_small_program};
-ghost use Rattle.dbpl_stored_modes.specs.StoredRuns.{IsStatusOf, RunsStored};
+ghost use Rattle.dbpl_stored_modes.specs.StoredRuns.{IsAnswer, RunsStored};
 ghost use Rattle.dbpl_stored_run.specs.Leaving.{OnlyRunFaults};
 ghost use Rattle.dbpl_world.specs.Files.{Files};
+ghost use Rattle.dbpl_world.specs.History.{now};
 
 use dbpl_base::Status;
 use dbpl_core::StoredProgram;
@@ -11,7 +12,8 @@ use dbpl_stored_run::{StopErr, run_stored};
 use dbpl_world::{MountErr, World};
 use std::alloc::Global;
 
-/// Runs the program over the store of this name, where `-` stands for none. Nothing of it is fetched, and no fetch failed.
+/// Runs the program over the store of this name, where `-` stands for none. It fetches nothing, so this holds whatever the
+/// shelf tells.
 pub fn run_over<W: World>(
     alloc: Global,
     store: &str,
@@ -29,6 +31,7 @@ pub fn run_over<W: World>(
       counts_before = W.counts world.old;
       counts_after = W.counts world.new;
     }) result }
+    ensures unnoted { IsTrue W.tells → (now (W.history world.new)).noted ≡ (now (W.history world.old)).noted }
     ensures counts { OnlyRunFaults (W.counts world.old) (W.counts world.new) }
 {
     if store == "-" {
@@ -39,29 +42,27 @@ pub fn run_over<W: World>(
         Err(MountErr::Failed) => return Status::DiskFault,
         Err(MountErr::Memory) => return Status::Memory,
     }
-    match run_stored(alloc, program, world) {
-        Ok(()) => Status::Done,
-        Err(why) => status_of(alloc, program, why),
-    }
+    status_of(alloc, program, run_stored(alloc, program, world))
 }
 
-/// The answer of a run that stopped so. The name of the relation variable wants memory.
-fn status_of(alloc: Global, program: &StoredProgram, why: StopErr) -> Status
-    ensures { IsStatusOf program.now why result }
+/// The answer where a run went so. The name of the relation variable wants memory.
+fn status_of(alloc: Global, program: &StoredProgram, ran: Result<(), StopErr>) -> Status
+    ensures { IsAnswer program.now ran result }
 {
-    match why {
-        StopErr::Trapped(trap) => Status::Trapped {
+    match ran {
+        Ok(()) => Status::Done,
+        Err(StopErr::Trapped(trap)) => Status::Trapped {
             kind: trap.kind,
             place: trap.place,
         },
-        StopErr::NotStore => Status::NotStore,
-        StopErr::Damaged(page) => Status::Damaged(page),
-        StopErr::SchemaDiffers => match program.relation.name.copy(alloc) {
+        Err(StopErr::NotStore) => Status::NotStore,
+        Err(StopErr::Damaged(page)) => Status::Damaged(page),
+        Err(StopErr::SchemaDiffers) => match program.relation.name.copy(alloc) {
             Ok(name) => Status::SchemaDiffers(name),
             Err(_) => Status::Memory,
         },
-        StopErr::DiskFault => Status::DiskFault,
-        StopErr::OutFault => Status::OutFault,
-        StopErr::Memory => Status::Memory,
+        Err(StopErr::DiskFault) => Status::DiskFault,
+        Err(StopErr::OutFault) => Status::OutFault,
+        Err(StopErr::Memory) => Status::Memory,
     }
 }

@@ -1,11 +1,11 @@
 -- One statement that prints, over an open store.
-use Rattle.std.proofs.Common.{◌≡◌, ◌∙◌, ℕ, List, [], ◌∷◌, ◌++◌, Result, Ok, Err, Some, ap, append-nil, map, refl, subst, sym}
+use Rattle.std.proofs.Common.{◌≡◌, ◌∙◌, ℕ, List, [], ◌∷◌, Result, ap, map, refl, subst, sym}
 use Rattle.std.specs.Prelude.{OnOk}
 use Rattle.dbpl_core.proofs.Events.{last-outs}
 use Rattle.dbpl_core.specs.Events.{Event, Out, last}
 use Rattle.dbpl_core.specs.Meaning.{Ended, before_zero}
 use Rattle.dbpl_core.specs.declared.action.Action.{Action}
-use Rattle.dbpl_core.specs.declared.action.Action.TheVariants.{Transact, WriteLn, WriteString}
+use Rattle.dbpl_core.specs.declared.action.Action.TheVariants.{WriteLn, WriteString}
 use Rattle.dbpl_core.specs.declared.stored_program.StoredProgram.{StoredProgram}
 use Rattle.dbpl_store.specs.Stores.{IsOpen, committed_of, database_in}
 use Rattle.dbpl_store.specs.declared.store.Store.{Store}

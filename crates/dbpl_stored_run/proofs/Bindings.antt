@@ -8,7 +8,7 @@ use Rattle.dbpl_store.specs.Stands.{newest, stands}
 use Rattle.dbpl_value.specs.declared.bound.Bound.{Bound}
 use Rattle.dbpl_value.specs.declared.field.Field.{Field}
 
-some-inside : {A : Type 0} (x y : A) → Some x ≡ Some y → x ≡ y
+pub some-inside : {A : Type 0} (x y : A) → Some x ≡ Some y → x ≡ y
 some-inside x y same = cc
 
 none-some : {A : Type 0} {B : Type 0} (found : Option A) (x : A) → found ≡ None → found ≡ Some x → B

@@ -1,7 +1,7 @@
 -- A transaction that was done in memory, and its commit.
-use Rattle.std.proofs.Common.{◌≡◌, ◌∙◌, ℕ, List, [], ◌∷◌, ◌++◌, Result, Ok, Err, Some, ap, append-nil, refl, subst, sym}
-use Rattle.dbpl_core.specs.Events.{Commit, Event, last, prints}
-use Rattle.dbpl_core.specs.Meaning.{Ended, Trapped, with_named}
+use Rattle.std.proofs.Common.{◌≡◌, ◌∙◌, List, [], ◌∷◌, Result, Ok, Err, Some, ap, append-nil, subst, sym}
+use Rattle.dbpl_core.specs.Events.{Commit, Event, last}
+use Rattle.dbpl_core.specs.Meaning.{Ended, with_named}
 use Rattle.dbpl_core.specs.Whole.{transacted_by}
 use Rattle.dbpl_core.specs.declared.action.Action.TheVariants.{Transact}
 use Rattle.dbpl_core.specs.declared.run_err.RunErr.{RunErr}

@@ -1,14 +1,12 @@
 -- A run from the opening of the store to its end.
-use Rattle.std.proofs.Common.{◌≡◌, ◌∙◌, ◌⊎◌, ℕ, inl, inr, Bool, List, [], ◌∷◌, ◌++◌, Option, Some, None, Result, Ok, Err, IsTrue, true, false, ap, append-nil, refl, subst, sym}
+use Rattle.std.proofs.Common.{◌≡◌, ◌∙◌, Bool, List, [], ◌++◌, None, IsTrue, true, false, ap, append-nil, subst, sym}
 use Rattle.std.specs.Prelude.{MatchBool}
 use Rattle.dbpl_core.proofs.Databases.{bound-is_there}
 use Rattle.dbpl_core.proofs.Statements.{whole-comes_to}
-use Rattle.dbpl_core.proofs.Turns.{comes_to_end}
-use Rattle.dbpl_core.specs.Events.{Event, last, prints}
-use Rattle.dbpl_core.specs.Meaning.{Ended, Going, Outcome, Standing, Trapped}
+use Rattle.dbpl_core.specs.Events.{Event}
+use Rattle.dbpl_core.specs.Meaning.{Outcome, Standing}
 use Rattle.dbpl_core.specs.Whole.{comes_to, events_of, whole}
 use Rattle.dbpl_core.specs.declared.stored_program.StoredProgram.{StoredProgram}
-use Rattle.dbpl_core.specs.declared.trap.Trap.{Trap}
 use Rattle.dbpl_database.specs.Binding.{Binds, Differs}
 use Rattle.dbpl_log.specs.Records.{HasHead}
 use Rattle.dbpl_store.specs.Stands.{LeavesOld, stands}
@@ -16,16 +14,13 @@ use Rattle.dbpl_store.specs.Stores.{IsBoundTo, IsOpen, committed_of, database_in
 use Rattle.dbpl_store.specs.declared.store.Store.{Store}
 use Rattle.dbpl_stored_run.proofs.Bindings.{binds-one, not-both, stands-head, stands-one}
 use Rattle.dbpl_stored_run.proofs.Tying.{made-behind, moments-behind, tied-still}
-use Rattle.dbpl_stored_run.specs.Answers.{HasOther, HasRun, IsDue, ReadsAs}
+use Rattle.dbpl_stored_run.specs.Answers.{HasOther, HasRun, ReadsAs}
 use Rattle.dbpl_stored_run.specs.Headline.{HasMade, LeavesTied, StandsFor}
 use Rattle.dbpl_stored_run.specs.Statements.{events_by, standing_by}
-use Rattle.dbpl_stored_run.specs.declared.stop_err.StopErr.{StopErr}
-use Rattle.dbpl_stored_run.specs.declared.stop_err.StopErr.TheVariants as errors
 use Rattle.dbpl_value.specs.declared.bound.Bound.{Bound}
 use Rattle.dbpl_value.specs.declared.field.Field.{Field}
 use Rattle.dbpl_world.proofs.Moments.{moments_last, moments_weaken}
 use Rattle.dbpl_world.specs.History.{AllReadAnImage, History, State, now}
-use Rattle.dbpl_world.specs.Images.{IsImage}
 use Rattle.dbpl_world.specs.Moments.{EachMoment}
 
 -- ---- before the first statement

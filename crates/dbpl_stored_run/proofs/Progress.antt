@@ -4,7 +4,7 @@ use Rattle.std.proofs.Math.Seq.{drop-cons}
 use Rattle.std.proofs.lemmas.List.{drop_all}
 use Rattle.dbpl_core.proofs.Events.{last-append}
 use Rattle.dbpl_core.specs.Events.{Event, last, prints}
-use Rattle.dbpl_core.specs.Meaning.{Ended, Outcome, Standing, Trapped}
+use Rattle.dbpl_core.specs.Meaning.{Ended, Outcome, Trapped}
 use Rattle.dbpl_core.specs.Whole.{after_events, comes_to}
 use Rattle.dbpl_core.specs.declared.action.Action.{Action}
 use Rattle.dbpl_core.specs.declared.stored_program.StoredProgram.{StoredProgram}

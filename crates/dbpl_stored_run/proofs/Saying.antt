@@ -1,15 +1,14 @@
 -- What holds at each moment while bytes are said.
-use Rattle.std.proofs.Common.{◌≡◌, ◌∙◌, ℕ, inl, List, [], ◌∷◌, ◌++◌, Some, ap, append_assoc, append-nil, map, refl, subst, sym}
+use Rattle.std.proofs.Common.{◌≡◌, ◌∙◌, ℕ, List, [], ◌∷◌, ◌++◌, Some, ap, append_assoc, append-nil, map, refl, subst, sym}
 use Rattle.std.proofs.lemmas.List.{map-append}
 use Rattle.dbpl_core.proofs.Events.{last-outs, prints-outs}
-use Rattle.dbpl_core.specs.Events.{Event, Out}
+use Rattle.dbpl_core.specs.Events.{Out}
 use Rattle.dbpl_stored_run.proofs.Tying.{changes-none}
-use Rattle.dbpl_stored_run.specs.Headline.{HasMade, IsTied, LeavesTied, StandsFor}
+use Rattle.dbpl_stored_run.specs.Headline.{HasMade, LeavesTied, StandsFor}
 use Rattle.dbpl_stored_run.specs.Leaving.{ChangesStore}
 use Rattle.dbpl_value.specs.declared.bound.Bound.{Bound}
 use Rattle.dbpl_world.proofs.Replays.{now-more, replay-said}
 use Rattle.dbpl_world.specs.History.{History, Said, State, more, now, step}
-use Rattle.dbpl_world.specs.Images.{IsImage}
 use Rattle.dbpl_world.specs.Moments.{Always, EachMoment}
 
 -- with these bytes said

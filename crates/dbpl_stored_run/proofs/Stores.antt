@@ -1,6 +1,6 @@
 -- An open store, its bound variable and what a transaction puts there.
-use Rattle.std.proofs.Common.{◌≡◌, ◌∙◌, ℕ, true, List, [], Option, Some, None, Ok, Err, Result, ap, refl, slice_get, subst, sym}
-use Rattle.std.specs.Cmp.{first_so, second_so}
+use Rattle.std.proofs.Common.{◌≡◌, ◌∙◌, ℕ, true, List, Option, Some, None, Result, ap, refl, slice_get, subst, sym}
+use Rattle.std.specs.Cmp.{second_so}
 use Rattle.std.specs.List.{list_all}
 use Rattle.std.specs.Option.{option_and_then, option_map, option_map_or}
 use Rattle.std.specs.Prelude.{IfSome, IsSome}
@@ -18,6 +18,7 @@ use Rattle.dbpl_log.specs.declared.log.Log.{Log}
 use Rattle.dbpl_store.proofs.Standing.{stands-for}
 use Rattle.dbpl_store.specs.Stores.{IsBoundTo, IsOpen, bound_in, committed_of, database_in, with_bound_relation}
 use Rattle.dbpl_store.specs.declared.store.Store.{Store}
+use Rattle.dbpl_stored_run.proofs.Bindings.{some-inside}
 use Rattle.dbpl_stored_run.specs.Headline.{StandsFor}
 use Rattle.dbpl_value.specs.Values.{is_of}
 use Rattle.dbpl_value.specs.declared.bound.Bound.{Bound}
@@ -67,9 +68,6 @@ put-in :
     option_map_or (λ at. with_relation relation at database) place database ≡ with_named bound.name relation database
 put-in None database bound relation rise got = cc
 put-in (Some at) database bound relation rise got = with_relation-at database at bound relation rise got
-
-some-inside : {A : Type 0} (x y : A) → Some x ≡ Some y → x ≡ y
-some-inside x y same = cc
 
 -- the relation in the bound variable is that of its name
 pub whole-is :

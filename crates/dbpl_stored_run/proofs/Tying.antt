@@ -1,5 +1,5 @@
 -- Runs that are tied to lists of events, one behind the other.
-use Rattle.std.proofs.Common.{◌≡◌, ◌∙◌, ℕ, inl, inr, List, [], ◌∷◌, ◌++◌, Option, Some, ap, append_assoc, append-nil, refl, subst, sym}
+use Rattle.std.proofs.Common.{◌≡◌, ◌∙◌, ℕ, inl, inr, List, [], ◌∷◌, ◌++◌, Some, ap, append_assoc, append-nil, refl, subst, sym}
 use Rattle.dbpl_core.proofs.Events.{last-append, prints-append}
 use Rattle.dbpl_core.specs.Events.{Commit, Event, last, prints}
 use Rattle.dbpl_log.specs.Changes.{ChangesLog, IsSynced, OnlySyncs}
@@ -9,7 +9,7 @@ use Rattle.dbpl_stored_run.specs.Leaving.{ChangesStore}
 use Rattle.dbpl_value.specs.declared.bound.Bound.{Bound}
 use Rattle.dbpl_world.proofs.Moments.{moments_last, moments_start, moments_then, moments_weaken}
 use Rattle.dbpl_world.specs.History.{History, State, now}
-use Rattle.dbpl_world.specs.Images.{IsImage, PartState}
+use Rattle.dbpl_world.specs.Images.{PartState}
 use Rattle.dbpl_world.specs.Moments.{EachMoment}
 
 -- ---- one list behind the other

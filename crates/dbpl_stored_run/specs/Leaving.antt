@@ -1,5 +1,5 @@
 -- What a run leaves alone.
-use Rattle.std.specs.Prelude.{◌≡◌, ℕ, ◌≤◌}
+use Rattle.std.specs.Prelude.{◌≡◌, ◌≤◌}
 use Rattle.dbpl_log.specs.Changes.{IsSynced}
 use Rattle.dbpl_world.specs.declared.counts.Counts.{Counts}
 use Rattle.dbpl_world.specs.History.{State}

@@ -1,7 +1,7 @@
 -- What one statement of the body does.
 use Rattle.std.specs.Prelude.{List}
 use Rattle.dbpl_core.specs.Events.{Event}
-use Rattle.dbpl_core.specs.Meaning.{Outcome, Standing}
+use Rattle.dbpl_core.specs.Meaning.{Standing}
 use Rattle.dbpl_core.specs.Whole.{comes_to}
 use Rattle.dbpl_core.specs.declared.action.Action.{Action}
 use Rattle.dbpl_core.specs.declared.stored_program.StoredProgram.{StoredProgram}

@@ -65,6 +65,8 @@ pub fn run_stored<W: World>(
 
     // What is left as it was.
     ensures refused { IsTrue W.tells → IfErr result (λ why. IsRefusal why → EachMoment (LeavesOld (now (W.history world.old))) (W.history world.old) (W.history world.new)) }
+    ensures unbound { IsTrue W.tells → ((database bound : List Bound) → ReadsAs database (now (W.history world.old)) → Binds program.now.relation database bound → ⊥) →
+        EachMoment (LeavesOld (now (W.history world.old))) (W.history world.old) (W.history world.new) }
     ensures only { IsTrue W.tells → EachMoment (ChangesStore (now (W.history world.old))) (W.history world.old) (W.history world.new) }
     ensures same { W.mounted world.new ≡ W.mounted world.old }
     ensures counts { OnlyRunFaults (W.counts world.old) (W.counts world.new) }

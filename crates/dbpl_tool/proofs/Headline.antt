@@ -6,9 +6,9 @@ use Rattle.dbpl_core.specs.Whole.{events_of}
 use Rattle.dbpl_core.specs.declared.stored_program.StoredProgram.{StoredProgram}
 use Rattle.dbpl_database.specs.Binding.{Binds}
 use Rattle.dbpl_sources.specs.Work.{Work}
-use Rattle.dbpl_stored_modes.specs.Images.{StandsThere}
+use Rattle.dbpl_stored_modes.specs.Images.{ReadsThere, StandsThere}
 use Rattle.dbpl_stored_modes.specs.Runs.{IsProgramOf, Runs}
-use Rattle.dbpl_stored_modes.specs.StoredRuns.{HasAll, RunsOver}
+use Rattle.dbpl_stored_modes.specs.StoredRuns.{HasAll, ReadsOver, RunsOver}
 use Rattle.dbpl_stored_run.specs.Headline.{IsTied}
 use Rattle.dbpl_tool.specs.Wholes.{IsWhole}
 use Rattle.dbpl_value.specs.declared.bound.Bound.{Bound}
@@ -34,12 +34,15 @@ module _ (store schema program : List ℕ) (work : Work) (answer : Status) (runs
   at_end P holds log pages said might =
       might_each P store work.after work.after (moments_start (LeavesOnlyAt store P) work.after holds) log pages said might
 
-  pub all_at_end : IsTrue work.tells → IsProgramOf work.files schema program stored → StandsThere store (now work.before) database →
+  reads_over : ReadsThere store (now work.before) database → Binds stored.relation database bound → ReadsOver store work stored database bound
+  reads_over reads binds = record { reads = reads; binds = binds }
+
+  pub all_at_end : IsTrue work.tells → IsProgramOf work.files schema program stored → ReadsThere store (now work.before) database →
       Binds stored.relation database bound → IsWhole answer → (log pages said : List ℕ) → Might work.after store (clock work.after) log pages said →
       HasAll (events_of stored bound) database (now work.before).said log pages said
-  all_at_end tells of stands binds (inl done) log pages said might =
+  all_at_end tells of reads binds (inl done) log pages said might =
       at_end (HasAll (events_of stored bound) database (now work.before).said)
-      ((runs.runs stored of).done tells database bound (over stands binds) done).all log pages said might
-  all_at_end tells of stands binds (inr trap) log pages said might =
+      ((runs.runs stored of).done tells database bound (reads_over reads binds) done).all log pages said might
+  all_at_end tells of reads binds (inr trap) log pages said might =
       at_end (HasAll (events_of stored bound) database (now work.before).said)
-      ((runs.runs stored of).trapped tells database bound (over stands binds) trap.0 trap.1).all log pages said might
+      ((runs.runs stored of).trapped tells database bound (reads_over reads binds) trap.0 trap.1).all log pages said might

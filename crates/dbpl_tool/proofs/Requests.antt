@@ -1,11 +1,14 @@
 -- Words that ask for one thing ask for no other.
-use Rattle.std.proofs.Common.{◌≡◌, ℕ, List, subst, sym}
+use Rattle.std.proofs.Common.{◌≡◌, ◌⊎◌, ℕ, List, inl, inr, subst}
 use Rattle.dbpl_alone.specs.RunsAlone.{RunsAlone}
 use Rattle.dbpl_base.specs.declared.status.Status.{Status}
 use Rattle.dbpl_base.specs.declared.status.Status.TheVariants.{BadWords}
-use Rattle.dbpl_sources.specs.Work.{Work}
+use Rattle.dbpl_core.specs.declared.stored_program.StoredProgram.{StoredProgram}
+use Rattle.dbpl_sources.specs.Work.{OnlyNotes, Work}
 use Rattle.dbpl_stored_modes.specs.Creating.{Creates}
+use Rattle.dbpl_stored_modes.specs.Reading.{IsNoProgram, ReadsProgram}
 use Rattle.dbpl_stored_modes.specs.Runs.{Runs}
+use Rattle.dbpl_stored_modes.specs.StoredRuns.{RunsStored}
 use Rattle.dbpl_words.specs.Asked.{Asked, Asks, AsksAlone, AsksToCreate, AsksToRun, Create, Run, RunAlone}
 
 -- what is known of requests
@@ -40,5 +43,17 @@ alone_asked file work status run is = let here = subst (RunsAlone file work) is 
 pub create_asked : (store : List ℕ) (work : Work) (status : Status) → Creates store work status → status ≡ BadWords → ⊥
 create_asked store work status creates is = let here = subst (Creates store work) is creates in here.answers
 
+unread_never : (store schema program : List ℕ) (work : Work) →
+    (IsNoProgram work.files schema program work.shelf_faults_before work.shelf_faults_after BadWords × OnlyNotes work)
+    ⊎ ((stored : StoredProgram) × ReadsProgram work.files schema program stored × RunsStored store stored work BadWords) → ⊥
+unread_never store schema program work (inl none) = by_cause none.0
+  where
+    by_cause : IsNoProgram work.files schema program work.shelf_faults_before work.shelf_faults_after BadWords → ⊥
+    by_cause (inl unread) = unread
+    by_cause (inr (inl unread)) = unread.2
+    by_cause (inr (inr refusal)) = refusal.4
+unread_never store schema program work (inr some) = some.2.answers
+
 pub run_asked : (store schema program : List ℕ) (work : Work) (status : Status) → Runs store schema program work status → status ≡ BadWords → ⊥
-run_asked store schema program work status runs is = let here = subst (Runs store schema program work) is runs in here.answers
+run_asked store schema program work status runs is =
+    unread_never store schema program work (subst (Runs store schema program work) is runs).caused

@@ -8,7 +8,7 @@ ghost use Rattle.dbpl_database.specs.Binding.{Binds};
 ghost use Rattle.dbpl_front.specs.Texts.{IsModule};
 ghost use Rattle.dbpl_front.specs.declared.program.Program.{Program};
 ghost use Rattle.dbpl_stored_modes.specs.Creating.{Creates};
-ghost use Rattle.dbpl_stored_modes.specs.Images.{StandsThere};
+ghost use Rattle.dbpl_stored_modes.specs.Images.{ReadsThere, StandsThere};
 ghost use Rattle.dbpl_stored_modes.specs.Runs.{IsProgramOf, Runs};
 ghost use Rattle.dbpl_stored_modes.specs.StoredRuns.{HasAll};
 ghost use Rattle.dbpl_stored_run.specs.Headline.{IsTied};
@@ -41,13 +41,13 @@ pub fn dbpl<W: World, S: Shelf, L: Ledger>(
 ) -> Status
     // THE HEADLINE: whatever a stop at any moment of the run could leave of the store, and the bytes said by then, are those
     // of one prefix of the program's events: its prints are the bytes, and its last commit is the database that the store
-    // stands for. From the end on of a run that ended or trapped it is the whole list.
+    // stands for. From the end on of a run that ended or trapped it is the whole list, over the database that a read gave.
     ensures headline { IsTrue W.tells → (store schema program : List ℕ) (stored : StoredProgram) (database bound : List Bound) → AsksToRun words.now store schema program →
         IsProgramOf (S.files shelf.old) schema program stored → StandsThere store (now (W.history world.old)) database → Binds stored.relation database bound →
         (log pages said : List ℕ) → Might (W.history world.new) store (clock (W.history world.old)) log pages said →
         IsTied (events_of stored bound) database (now (W.history world.old)).said log pages said }
     ensures whole { IsTrue W.tells → (store schema program : List ℕ) (stored : StoredProgram) (database bound : List Bound) → AsksToRun words.now store schema program →
-        IsProgramOf (S.files shelf.old) schema program stored → StandsThere store (now (W.history world.old)) database → Binds stored.relation database bound →
+        IsProgramOf (S.files shelf.old) schema program stored → ReadsThere store (now (W.history world.old)) database → Binds stored.relation database bound →
         IsWhole result → (log pages said : List ℕ) → Might (W.history world.new) store (clock (W.history world.new)) log pages said →
         HasAll (events_of stored bound) database (now (W.history world.old)).said log pages said }
     // Without a store the same is said of the bytes alone.

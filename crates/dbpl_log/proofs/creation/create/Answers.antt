@@ -108,3 +108,15 @@ returns-clause-pages g c told =
     let text = only_writing _ _ _ 1 _ (c.in_ok-shut_head.ensures.only_log told) (c.in_ok-write_and_sync.ensures.moments told) in
     let opened = only_writing _ _ _ 0 (1 ∷ []) text (c.in_ok-write_and_sync-2.ensures.moments told) in
     pages_synced _ _ _ _ (c.in_ok-sync_both.ensures.ok told) (c.check_free.ensures.unchanged told) opened
+
+pub returns-in_err-shut_head-clause-kept : goal.returns-in_err-shut_head-clause-kept
+returns-in_err-shut_head-clause-kept g c told none = absurd (none (free0 _ _ _ (g.met.W.World.reads_an_image c.args.world.now told) (c.in_ok-sync_both.ensures.ok told) (c.check_free.ensures.unchanged told) (c.in_ok-check_free.ensures.free told)))
+
+pub returns-in_err-write_and_sync-clause-kept : goal.returns-in_err-write_and_sync-clause-kept
+returns-in_err-write_and_sync-clause-kept g c told none = absurd (none (free0 _ _ _ (g.met.W.World.reads_an_image c.args.world.now told) (c.in_ok-sync_both.ensures.ok told) (c.check_free.ensures.unchanged told) (c.in_ok-check_free.ensures.free told)))
+
+pub returns-in_err-write_and_sync-2-clause-kept : goal.returns-in_err-write_and_sync-2-clause-kept
+returns-in_err-write_and_sync-2-clause-kept g c told none = absurd (none (free0 _ _ _ (g.met.W.World.reads_an_image c.args.world.now told) (c.in_ok-sync_both.ensures.ok told) (c.check_free.ensures.unchanged told) (c.in_ok-check_free.ensures.free told)))
+
+pub returns-clause-kept : goal.returns-clause-kept
+returns-clause-kept g c told none = absurd (none (free0 _ _ _ (g.met.W.World.reads_an_image c.args.world.now told) (c.in_ok-sync_both.ensures.ok told) (c.check_free.ensures.unchanged told) (c.in_ok-check_free.ensures.free told)))

@@ -18,3 +18,8 @@ pub returns-clause-refused : goal.returns-clause-refused
 returns-clause-refused g c = λ told why.
     opening-moments (g.W.World.history c.args.world.now) (g.W.World.history c.create.new.world)
     (c.create.ensures.refused told why)
+
+pub returns-clause-kept : goal.returns-clause-kept
+returns-clause-kept g c = λ told none.
+    opening-moments (g.W.World.history c.args.world.now) (g.W.World.history c.create.new.world)
+    (c.create.ensures.kept told none)

@@ -1,5 +1,5 @@
 -- A run that began has the store's database and what its variable is bound to; one that didn't leaves what was there.
-use Rattle.std.proofs.Common.{◌≡◌, ◌∙◌, inl, inr, Err, ap, refl, sym}
+use Rattle.std.proofs.Common.{◌∙◌, inl, inr, Err, ap, refl}
 use Rattle.dbpl_core.proofs.Programs.{small-kept}
 use Rattle.dbpl_core.specs.Meaning.{Ended, Trapped}
 use Rattle.dbpl_core.specs.Whole.{events_of}
@@ -9,7 +9,6 @@ use Rattle.dbpl_stored_run.proofs.Answering.{counts-then, disk-counts, due-ended
 use Rattle.dbpl_stored_run.proofs.Ending.{HasBegun, begun, begun-agrees, begun-head, begun-made, begun-moments, begun-run, begun-sound, begun-stands, has-other, matched-true, moments-unbegun, other-unbound, reads-head, reads-of, reads-sound}
 use Rattle.dbpl_stored_run.proofs.Stores.{open-kept}
 use Rattle.dbpl_stored_run.proofs.Tying.{only-synced, only-then}
-use Rattle.dbpl_stored_run.specs.declared.body_err.BodyErr.TheVariants as body_errors
 use Rattle.dbpl_stored_run.specs.declared.stop_err.StopErr.TheVariants as errors
 use Rattle.dbpl_world.proofs.CountLaws.{rose_since}
 use Rattle.dbpl_world.specs.History.{now}
@@ -104,6 +103,9 @@ pub returns-in_err-store-clause-refused : goal.returns-in_err-store-clause-refus
 returns-in_err-store-clause-refused g c =
     λ told. every-err c.from_residual.result (λ why refusal. c.open.ensures.moments told)
 
+pub returns-in_err-store-clause-unbound : goal.returns-in_err-store-clause-unbound
+returns-in_err-store-clause-unbound g c = λ told none. c.open.ensures.moments told
+
 pub returns-in_err-store-clause-only : goal.returns-in_err-store-clause-only
 returns-in_err-store-clause-only g c =
     λ told. only-synced (g.W.World.history c.args.world.now) (g.W.World.history c.open.new.world) (c.open.ensures.only_syncs told)
@@ -187,6 +189,9 @@ pub returns-in_err-is_bound-clause-refused : goal.returns-in_err-is_bound-clause
 returns-in_err-is_bound-clause-refused g c =
     λ told. every-err c.from_residual-in_err-is_bound.result (λ why refusal. c.open.ensures.moments told)
 
+pub returns-in_err-is_bound-clause-unbound : goal.returns-in_err-is_bound-clause-unbound
+returns-in_err-is_bound-clause-unbound g c = λ told none. c.open.ensures.moments told
+
 pub returns-in_err-is_bound-clause-only : goal.returns-in_err-is_bound-clause-only
 returns-in_err-is_bound-clause-only g c =
     λ told. only-synced (g.W.World.history c.args.world.now) (g.W.World.history c.open.new.world) (c.open.ensures.only_syncs told)
@@ -228,6 +233,9 @@ returns-then-not-is_bound-clause-differs_where g c =
 pub returns-then-not-is_bound-clause-refused : goal.returns-then-not-is_bound-clause-refused
 returns-then-not-is_bound-clause-refused g c =
     λ told refusal. c.open.ensures.moments told
+
+pub returns-then-not-is_bound-clause-unbound : goal.returns-then-not-is_bound-clause-unbound
+returns-then-not-is_bound-clause-unbound g c = λ told none. c.open.ensures.moments told
 
 pub returns-then-not-is_bound-clause-only : goal.returns-then-not-is_bound-clause-only
 returns-then-not-is_bound-clause-only g c =
@@ -382,6 +390,18 @@ returns-in_err-run_body-clause-refused g c =
     let is = handed c.from_residual-in_err-run_body.result _ c.from_residual-in_err-run_body.ensures.1 in
     λ told. unrefused _ c.from_residual-in_err-run_body.result _ is
 
+pub returns-in_err-run_body-clause-unbound : goal.returns-in_err-run_body-clause-unbound
+returns-in_err-run_body-clause-unbound g c =
+    let begins : HasBegun c.args.program.now g.W.World.tells c.bind.new.self (g.W.World.history c.args.world.now) (g.W.World.history c.open.new.world) =
+    begun c.args.program.now g.W.World.tells c.in_ok-store.store c.bind.new.self (g.W.World.history c.args.world.now) (g.W.World.history c.open.new.world) c.in_ok-store.ensures.read
+    c.in_ok-store.ensures.database c.bind.ensures.committed
+    (matched-true c.args.program.now.relation c.in_ok-store.store c.bind.new.self c.in_ok-is_bound.is_bound (now (g.W.World.history c.args.world.now)) c.in_ok-is_bound.ensures.bound c.if-not-is_bound.false).0
+    (λ told. open-kept (now (g.W.World.history c.open.new.world)) (now (g.W.World.history c.open.new.world)) c.in_ok-store.store c.bind.new.self refl c.bind.ensures.log c.bind.ensures.committed
+    (c.in_ok-store.ensures.«open» told))
+    c.open.ensures.moments
+    in
+    λ told none. absurd (none (committed_of c.bind.new.self) (database_in c.bind.new.self) (begins.stood told) begins.binds)
+
 pub returns-in_err-run_body-clause-only : goal.returns-in_err-run_body-clause-only
 returns-in_err-run_body-clause-only g c =
     λ told. only-then (g.W.World.history c.args.world.now) (g.W.World.history c.open.new.world) (g.W.World.history c.run_body.new.world) (only-synced (g.W.World.history c.args.world.now) (g.W.World.history c.open.new.world) (c.open.ensures.only_syncs told)) (c.run_body.ensures.only told)
@@ -478,6 +498,18 @@ returns-clause-differs_where g c =
     c.open.ensures.moments
     in
     λ told database reads differs. absurd (begun-agrees c.args.program.now g.W.World.tells c.bind.new.self (g.W.World.history c.args.world.now) (g.W.World.history c.open.new.world) begins told database reads differs)
+
+pub returns-clause-unbound : goal.returns-clause-unbound
+returns-clause-unbound g c =
+    let begins : HasBegun c.args.program.now g.W.World.tells c.bind.new.self (g.W.World.history c.args.world.now) (g.W.World.history c.open.new.world) =
+    begun c.args.program.now g.W.World.tells c.in_ok-store.store c.bind.new.self (g.W.World.history c.args.world.now) (g.W.World.history c.open.new.world) c.in_ok-store.ensures.read
+    c.in_ok-store.ensures.database c.bind.ensures.committed
+    (matched-true c.args.program.now.relation c.in_ok-store.store c.bind.new.self c.in_ok-is_bound.is_bound (now (g.W.World.history c.args.world.now)) c.in_ok-is_bound.ensures.bound c.if-not-is_bound.false).0
+    (λ told. open-kept (now (g.W.World.history c.open.new.world)) (now (g.W.World.history c.open.new.world)) c.in_ok-store.store c.bind.new.self refl c.bind.ensures.log c.bind.ensures.committed
+    (c.in_ok-store.ensures.«open» told))
+    c.open.ensures.moments
+    in
+    λ told none. absurd (none (committed_of c.bind.new.self) (database_in c.bind.new.self) (begins.stood told) begins.binds)
 
 pub returns-clause-only : goal.returns-clause-only
 returns-clause-only g c =

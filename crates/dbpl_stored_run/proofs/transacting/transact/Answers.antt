@@ -1,5 +1,5 @@
 -- What the store has in memory is what its commit leaves.
-use Rattle.std.proofs.Common.{[], ◌∷◌, ◌∙◌, Err, ap, refl, sym}
+use Rattle.std.proofs.Common.{[], ◌∷◌, ◌∙◌, Err, ap, refl}
 use Rattle.dbpl_core.specs.declared.action.Action.TheVariants.{Transact}
 use Rattle.dbpl_store.specs.Stores.{committed_of, database_in}
 use Rattle.dbpl_stored_run.proofs.Answering.{handed, no-ok}

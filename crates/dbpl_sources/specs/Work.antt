@@ -1,8 +1,8 @@
 -- What a command met and did.
-use Rattle.std.specs.Prelude.{ℕ, Bool, Option}
-use Rattle.dbpl_world.specs.declared.counts.Counts.{Counts}
+use Rattle.std.specs.Prelude.{◌≡◌, ℕ, Bool, IsTrue, List, Option, map}
 use Rattle.dbpl_world.specs.Files.{Files}
-use Rattle.dbpl_world.specs.History.{History}
+use Rattle.dbpl_world.specs.History.{History, Noted, more}
+use Rattle.dbpl_world.specs.declared.counts.Counts.{Counts}
 
 -- What the shelf tells and how often it had failed before and after, whether the world tells, and what it and its counts
 -- were before and after.
@@ -15,3 +15,7 @@ pub record Work : Type 0 where
   pub after : History
   pub counts_before : Counts
   pub counts_after : Counts
+
+-- Where the world tells, nothing happened to it but that bytes were noted, perhaps none.
+abbrev pub OnlyNotes : Work → Type 0
+OnlyNotes work = IsTrue work.tells → (bytes : List ℕ) × (work.after ≡ more work.before (map Noted bytes))

@@ -1,0 +1,50 @@
+-- Each return has its cause.
+use Rattle.std.proofs.Common.{Err, ap}
+use Rattle.dbpl_stored_modes.proofs.RunLaw.{Ran, named_store, ran_unnoted, runs_stored, still_runs}
+use Rattle.dbpl_world.specs.History.{now}
+use Rattle.dbpl_world.specs.declared.counts.Counts.{Counts}
+use Rattle.dbpl_stored_modes.proofs.running.run_over.Goals as goal
+
+pub returns-in-Err-Failed-clause-runs : goal.returns-in-Err-Failed-clause-runs
+returns-in-Err-Failed-clause-runs g c = λ files faults_before faults_after.
+    still_runs c.args.store.now c.args.program.now _ _ c.in-Err-Failed.ensures.unchanged (c.in-Err-Failed.ensures.cause (ap Err c.in-Err-Failed.field-0-is), named_store c.args.store.now c.if-eq.ensures)
+
+pub returns-in-Err-Memory-clause-runs : goal.returns-in-Err-Memory-clause-runs
+returns-in-Err-Memory-clause-runs g c = λ files faults_before faults_after.
+    still_runs c.args.store.now c.args.program.now _ _ c.in-Err-Memory.ensures.unchanged tt
+
+pub returns-clause-runs : goal.returns-clause-runs
+returns-clause-runs g c = λ files faults_before faults_after.
+    let run : Ran c.args.program.now g.W.World.tells (g.W.World.history c.mount.new.self) (g.W.World.history c.run_stored.new.world)
+    (g.W.World.counts c.mount.new.self) (g.W.World.counts c.run_stored.new.world) c.run_stored.result = record {
+      headline = c.run_stored.ensures.headline;
+      made = c.run_stored.ensures.whole;
+      made_trapped = c.run_stored.ensures.whole_trapped;
+      complete = c.run_stored.ensures.complete;
+      ended = c.run_stored.ensures.ended;
+      trapped = c.run_stored.ensures.trapped;
+      not_store = c.run_stored.ensures.not_store;
+      not_store_where = c.run_stored.ensures.not_store_where;
+      damaged = c.run_stored.ensures.damaged;
+      damaged_where = c.run_stored.ensures.damaged_where;
+      differs = c.run_stored.ensures.differs;
+      differs_where = c.run_stored.ensures.differs_where;
+      disk_fault = c.run_stored.ensures.disk_fault;
+      out_fault = c.run_stored.ensures.out_fault;
+      refused = c.run_stored.ensures.refused;
+      unbound = c.run_stored.ensures.unbound;
+      only = c.run_stored.ensures.only;
+    } in
+    runs_stored c.args.store.now c.args.program.now _ (g.W.World.history c.mount.new.self) (g.W.World.counts c.mount.new.self) c.run_stored.result _
+    (named_store c.args.store.now c.if-eq.ensures) c.in-Ok.ensures.told c.mount.ensures.counts.later
+    (ap (λ (counts : Counts). counts.say_faults) c.mount.ensures.counts.others) run
+    c.status_of.ensures
+
+pub returns-clause-unnoted : goal.returns-clause-unnoted
+returns-clause-unnoted g c = λ told. ran_unnoted _ _ (c.run_stored.ensures.only told) c.args.store.now _ (c.in-Ok.ensures.told told)
+
+pub returns-in-Err-Failed-clause-unnoted : goal.returns-in-Err-Failed-clause-unnoted
+returns-in-Err-Failed-clause-unnoted g c = λ told. ap (λ h. (now h).noted) (c.in-Err-Failed.ensures.unchanged told)
+
+pub returns-in-Err-Memory-clause-unnoted : goal.returns-in-Err-Memory-clause-unnoted
+returns-in-Err-Memory-clause-unnoted g c = λ told. ap (λ h. (now h).noted) (c.in-Err-Memory.ensures.unchanged told)
