@@ -1,6 +1,5 @@
 // Worked commands over a store in memory: each with its status, what it said and noted, and the log that it left.
 use crate::tests::{command_over, shelf_of};
-use dbpl_base::Status;
 use dbpl_world::{MemoryWorld, Part, World};
 use std::alloc::Global;
 use std::test::Fail;
@@ -43,19 +42,6 @@ FROM InOut IMPORT WriteString, WriteLn;
 TRANSACTION add;
 BEGIN
   r :+ Subs{Sub{1, 5}}
-END add;
-BEGIN
-  WriteString('a'); add; WriteString('b'); WriteLn
-END P.
-";
-
-/// Two records under one key, at the set expression
-const TWO_UNDER_ONE: &[u8] = b"MODULE P;
-FROM D IMPORT Sub, Subs, r;
-FROM InOut IMPORT WriteString, WriteLn;
-TRANSACTION add;
-BEGIN
-  r :+ Subs{Sub{1, 5}, Sub{1, 6}}
 END add;
 BEGIN
   WriteString('a'); add; WriteString('b'); WriteLn
@@ -105,16 +91,6 @@ const ROWS: &[Row] = &[
         noted: b"store exists\n",
         log_after: KEPT,
     },
-    Row {
-        words: CREATE,
-        schema: SUBS,
-        program: ONE_FIVE,
-        log: b"a letter",
-        code: 15,
-        said: b"",
-        noted: b"files hold something else\n",
-        log_after: b"a letter",
-    },
     // A record is put into an empty store, and once more into the one that has it.
     Row {
         words: RUN,
@@ -136,17 +112,7 @@ const ROWS: &[Row] = &[
         noted: b"",
         log_after: KEPT,
     },
-    // Traps leave nothing of their transaction.
-    Row {
-        words: RUN,
-        schema: SUBS,
-        program: TWO_UNDER_ONE,
-        log: EMPTY,
-        code: 1,
-        said: b"a",
-        noted: b"trap 9 at 1:6:8\n",
-        log_after: EMPTY,
-    },
+    // A trap leaves nothing of its transaction.
     Row {
         words: RUN,
         schema: SUBS,
@@ -157,7 +123,7 @@ const ROWS: &[Row] = &[
         noted: b"trap 9 at 1:7:5\n",
         log_after: KEPT,
     },
-    // Other stores are refused, and stay as they are.
+    // What can't be run over is refused, and stays as it is.
     Row {
         words: RUN,
         schema: OTHER_SUBS,
@@ -169,16 +135,6 @@ const ROWS: &[Row] = &[
         log_after: KEPT,
     },
     Row {
-        words: RUN,
-        schema: SUBS,
-        program: ONE_FIVE,
-        log: b"",
-        code: 7,
-        said: b"",
-        noted: b"not a store\n",
-        log_after: b"",
-    },
-    Row {
         words: &[b"run", b"-", b"d.mod", b"p.mod"],
         schema: SUBS,
         program: ONE_FIVE,
@@ -188,37 +144,7 @@ const ROWS: &[Row] = &[
         noted: b"not a store\n",
         log_after: EMPTY,
     },
-    Row {
-        words: RUN,
-        schema: SUBS,
-        program: ONE_FIVE,
-        log: b"\x01DBPL-STORE-0000\x01",
-        code: 8,
-        said: b"",
-        noted: b"store damaged at page 0\n",
-        log_after: b"\x01DBPL-STORE-0000\x01",
-    },
-    // Files that aren't there, and texts of another form. The files come before the store.
-    Row {
-        words: &[b"run", b"s", b"none.mod", b"p.mod"],
-        schema: SUBS,
-        program: ONE_FIVE,
-        log: b"",
-        code: 5,
-        said: b"",
-        noted: b"no file none.mod\n",
-        log_after: b"",
-    },
-    Row {
-        words: &[b"run", b"s", b"d.mod", b"none.mod"],
-        schema: SUBS,
-        program: ONE_FIVE,
-        log: b"",
-        code: 5,
-        said: b"",
-        noted: b"no file none.mod\n",
-        log_after: b"",
-    },
+    // The texts come before the store.
     Row {
         words: RUN,
         schema: SUBS,
@@ -228,16 +154,6 @@ const ROWS: &[Row] = &[
         said: b"",
         noted: b"refused L2 at 1:1:14\n",
         log_after: b"",
-    },
-    Row {
-        words: RUN,
-        schema: ONE_FIVE,
-        program: SUBS,
-        log: EMPTY,
-        code: 3,
-        said: b"",
-        noted: b"refused L9 at 0:1:1\n",
-        log_after: EMPTY,
     },
     // Words without a reading
     Row {
@@ -253,8 +169,8 @@ const ROWS: &[Row] = &[
 ];
 
 /// A world with this log as that of the store `s`, or without a store where it is empty.
-fn world_of(alloc: Global, log: &[u8], fails: &[u64]) -> Result<MemoryWorld, Fail> {
-    let mut world = MemoryWorld::make(alloc, b"", fails, 10_000)?;
+fn world_of(alloc: Global, log: &[u8]) -> Result<MemoryWorld, Fail> {
+    let mut world = MemoryWorld::make(alloc, b"", &[], 10_000)?;
     if !log.is_empty() {
         world.put_store(alloc, "s", log, b"")?;
     }
@@ -282,7 +198,7 @@ fn commands_over_a_store(rt: HostRuntime) -> Result<(), Fail> {
     for row in ROWS {
         let files: &[(&[u8], &[u8])] = &[(b"d.mod", row.schema), (b"p.mod", row.program)];
         let mut shelf = shelf_of(alloc, files, &[])?;
-        let mut world = world_of(alloc, row.log, &[])?;
+        let mut world = world_of(alloc, row.log)?;
         let status = command_over(alloc, row.words, &mut shelf, &mut world)?;
         assert_eq!(rt; status.code(), row.code);
         assert_eq!(rt; world.said(), row.said);
@@ -290,49 +206,5 @@ fn commands_over_a_store(rt: HostRuntime) -> Result<(), Fail> {
         let log = log_of(alloc, &mut world).expect(&rt, "the log");
         assert!(rt; log.as_slice() == row.log_after);
     }
-    Ok(())
-}
-
-/// What is left where the call of the world with this number fails.
-struct Left {
-    status: Status,
-    said: usize,
-    is_kept: bool,
-    is_empty: bool,
-}
-
-/// A run that prints, commits and prints, over an empty store.
-fn after_fault(alloc: Global, call: u64) -> Result<Option<Left>, Fail> {
-    let mut shelf = shelf_of(alloc, &[(b"d.mod", SUBS), (b"p.mod", ONE_FIVE)], &[])?;
-    let mut world = world_of(alloc, EMPTY, &[call])?;
-    let status = command_over(alloc, RUN, &mut shelf, &mut world)?;
-    let said = world.said().len();
-    Ok(match log_of(alloc, &mut world) {
-        Some(log) => Some(Left {
-            status,
-            said,
-            is_kept: log.as_slice() == KEPT,
-            is_empty: log.as_slice().len() < 22,
-        }),
-        None => None,
-    })
-}
-
-#[test]
-fn each_call_failing(rt: HostRuntime) -> Result<(), Fail> {
-    for call in 0..15 {
-        let left = after_fault(rt.alloc(), call)?.expect(&rt, "the log");
-        let fits = match left.status {
-            Status::DiskFault => left.said <= 1,
-            Status::OutFault => {
-                (left.said == 0 && left.is_empty) || (0 < left.said && left.said < 3 && left.is_kept)
-            }
-            _ => false,
-        };
-        assert!(rt; fits);
-    }
-    // Behind the last call no fault is met.
-    let left = after_fault(rt.alloc(), 15)?.expect(&rt, "the log");
-    assert!(rt; left.status == Status::Done && left.said == 3 && left.is_kept);
     Ok(())
 }

@@ -190,7 +190,7 @@ const ROWS: &[Row] = &[
         noted: USAGE,
     },
     Row {
-        words: &[b"run", b"-", b"hello.mod", b"hello.mod"],
+        words: &[b"run", b"-", b"hello.mod", b"hello.mod", b"hello.mod"],
         text: HELLO,
         fails: &[],
         fetches_fail: &[],
