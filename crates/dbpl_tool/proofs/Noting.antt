@@ -61,9 +61,14 @@ module _ (work : Work) (after : History) (counts : Counts) (status : Status) whe
   all_counts notes = by_both work.counts_before work.counts_after counts notes.did notes.only
     where
       by_both : (old mid new : Counts) → OnlyRunFaults old mid → OnlyNoteFaults mid new → OnlyCommandFaults old new
-      by_both old mid new did only = record {
-        others = cc (did.others, only.others);
-        say_later = subst (λ (n : ℕ). old.say_faults ≤ n) (sym (ap (λ (c : Counts). c.say_faults) only.others)) did.say_later;
-        note_later = subst (λ (n : ℕ). n ≤ new.note_faults) (ap (λ (c : Counts). c.note_faults) did.others) only.later;
-        disk_later = subst (λ (n : ℕ). old.disk_faults ≤ n) (sym (ap (λ (c : Counts). c.disk_faults) only.others)) did.disk_later;
-      }
+      by_both old mid new did only =
+          let say : mid.say_faults ≡ new.say_faults = sym (ap (λ (c : Counts). c.say_faults) only.others) in
+          let disk : mid.disk_faults ≡ new.disk_faults = sym (ap (λ (c : Counts). c.disk_faults) only.others) in
+          record {
+            others = only.others ∙ ap (λ (c : Counts). record c { note_faults = new.note_faults }) did.others
+                ∙ ap (λ (n : ℕ). record old { say_faults = n; note_faults = new.note_faults; disk_faults = mid.disk_faults }) say
+                ∙ ap (λ (n : ℕ). record old { say_faults = new.say_faults; note_faults = new.note_faults; disk_faults = n }) disk;
+            say_later = subst (λ (n : ℕ). old.say_faults ≤ n) say did.say_later;
+            note_later = subst (λ (n : ℕ). n ≤ new.note_faults) (ap (λ (c : Counts). c.note_faults) did.others) only.later;
+            disk_later = subst (λ (n : ℕ). old.disk_faults ≤ n) disk did.disk_later;
+          }
