@@ -1,6 +1,6 @@
 -- What a module comes to: with a turn for its body and one for each statement it ends and has printed all, and more
 -- turns than some only add events.
-use Rattle.std.proofs.Common.{◌≡◌, ◌∙◌, ℕ, ◌+◌, suc, List, [], ◌∷◌, ◌++◌, ap, append_assoc, map, refl, sym, take}
+use Rattle.std.proofs.Common.{◌≡◌, ◌∙◌, ℕ, ◌+◌, suc, List, [], ◌∷◌, ◌++◌, ap, append_assoc, map, sym, take}
 use Rattle.std.proofs.lemmas.List.{append-nil, map-append, take-map}
 use Rattle.std.specs.List.{flat_map}
 use Rattle.dbpl_alone.specs.Headline.{PrintsAll, PrintsPrefix}

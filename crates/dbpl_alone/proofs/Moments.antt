@@ -1,6 +1,6 @@
 -- What holds at each moment of a run that says bytes and then notes some.
 use Rattle.std.proofs.Common.{◌≡◌, ◌∙◌, ℕ, List, zero, suc, [], ◌∷◌, ◌++◌, ap, append_assoc, length, map, refl, subst, sym, take}
-use Rattle.std.proofs.Math.Seq.{take-append_seam, take-length}
+use Rattle.std.proofs.Math.Seq.{take-length}
 use Rattle.std.proofs.lemmas.List.{append-nil}
 use Rattle.dbpl_alone.specs.Headline.{PrintsAll, PrintsPrefix, SaidSince}
 use Rattle.dbpl_alone.specs.Meaning.{meaning}

@@ -1,5 +1,5 @@
 -- A report that is noted behind the work changes nothing of what the work says.
-use Rattle.std.proofs.Common.{◌≡◌, ◌∙◌, ℕ, List, [], ◌++◌, IsTrue, ap, append_assoc, map, sym}
+use Rattle.std.proofs.Common.{◌≡◌, ◌∙◌, ℕ, List, ◌++◌, ap, append_assoc, map, sym}
 use Rattle.std.proofs.lemmas.List.{map-append}
 use Rattle.dbpl_alone.proofs.Rows.{rows}
 use Rattle.dbpl_alone.specs.Answers.{Caused, Says}

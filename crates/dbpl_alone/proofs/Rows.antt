@@ -1,5 +1,5 @@
 -- From the causes by cases to the rows of the contract, each a fact of its own.
-use Rattle.std.proofs.Common.{◌≡◌, ◌∙◌, ◌⊎◌, ℕ, ◌<◌, ◌≤◌, List, [], ◌++◌, IfSome, IsSomeAnd, IsTrue, None, Option, Some, ap, arith, inl, inr, length, map, refl, subst, sym}
+use Rattle.std.proofs.Common.{◌≡◌, ◌∙◌, ◌⊎◌, ℕ, ◌<◌, ◌≤◌, List, IfSome, IsSomeAnd, None, Option, Some, ap, arith, inl, inr, length, refl, subst, sym}
 use Rattle.dbpl_alone.proofs.Moments.{all_prefix, each_front, none_fronts, nothing_prefix, prefix_fronts, said_at_end}
 use Rattle.dbpl_alone.specs.Answers.{Caused, IsRefusalUnlessUnread, IsSilent, IsTheModule, Says, Silent}
 use Rattle.dbpl_alone.specs.Headline.{PrintsAll, PrintsPrefix}
@@ -17,7 +17,6 @@ use Rattle.dbpl_sources.specs.Texts.{HasLongText, HasText, IsMissing, IsUnlessUn
 use Rattle.dbpl_sources.specs.Work.{Work}
 use Rattle.dbpl_world.specs.Counts.{Rose}
 use Rattle.dbpl_world.specs.Files.{Files, file_of}
-use Rattle.dbpl_world.specs.History.{Noted, Said, more}
 
 -- ---- one file has one text
 

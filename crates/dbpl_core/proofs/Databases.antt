@@ -1,12 +1,11 @@
 -- The relation of a variable that is found by its name.
-use Rattle.std.proofs.Common.{◌≡◌, ◌≢◌, ◌⊎◌, inl, inr, ℕ, zero, suc, Bool, true, false, List, [], ◌∷◌, Option, Some, None, slice_get, slice_set, refl, ap, sym, ◌∙◌}
+use Rattle.std.proofs.Common.{◌≡◌, inl, inr, ℕ, zero, suc, Bool, true, false, List, [], ◌∷◌, Some, None, slice_get, slice_set, refl, ap, sym, ◌∙◌}
 use Rattle.std.proofs.lemmas.Slice.Eq.{bytes_eq-Decides}
 use Rattle.std.proofs.lemmas.Map.Text.{is_eq-slice_cmp}
 use Rattle.std.specs.Cmp.{first_so, second_so}
 use Rattle.std.specs.List.{list_all}
 use Rattle.std.specs.Ordering.{is_eq, is_lt}
-use Rattle.std.specs.Prelude.{if◌then◌else◌, IsSome}
-use Rattle.std.specs.declared.cmp.Ordering.TheVariants.{Less}
+use Rattle.std.specs.Prelude.{if◌then◌else◌}
 use Rattle.dbpl_core.specs.Meaning.{relation_named, with_named}
 use Rattle.dbpl_database.proofs.Rising.{is_lt-Less}
 use Rattle.dbpl_database.specs.Binding.{Binds, bound_named, empty_bound, holding, with_bound, with_relation}

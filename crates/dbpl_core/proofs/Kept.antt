@@ -1,5 +1,5 @@
 -- A relation over a record of CARDINAL fields can be kept.
-use Rattle.std.proofs.Common.{◌≡◌, ◌+◌, ◌<◌, ◌≤◌, ◌*◌, ℕ, zero, suc, max, Bool, true, false, cond, not, ◌&&◌, ◌||◌, List, [], ◌∷◌, ◌++◌, drop, length, map, take, refl, ap, sym, subst, ◌∙◌, arith}
+use Rattle.std.proofs.Common.{◌≡◌, ◌+◌, ◌≤◌, ℕ, suc, max, Bool, true, false, cond, not, ◌&&◌, ◌||◌, List, [], ◌∷◌, ◌++◌, drop, length, map, take, refl, ap, ◌∙◌, arith}
 use Rattle.std.proofs.Math.Seq.{drop-append-add}
 use Rattle.std.proofs.lemmas.Bool.Decides.{nat_tests}
 use Rattle.std.proofs.lemmas.List.{length-append, length-map}
@@ -7,17 +7,16 @@ use Rattle.std.proofs.lemmas.List.Sums.{sum_by-cons}
 use Rattle.std.specs.Cmp.{first_so, second_so}
 use Rattle.std.specs.Cmp.Derive.{both_true}
 use Rattle.std.specs.List.{flat_map, fold, list_all, list_any, prefix_len, sum, sum_by, take_while}
-use Rattle.std.specs.Prelude.{if◌then◌else◌, nat_eq, nat_le}
+use Rattle.std.specs.Prelude.{if◌then◌else◌, nat_le}
 use Rattle.dbpl_base.specs.Words.{is_letter, is_word_byte}
 use Rattle.dbpl_codec.specs.KeySpelling.{key_type, type_named}
-use Rattle.dbpl_core.proofs.Rows.{flat-fields, is_Card}
 use Rattle.dbpl_core.proofs.Sizes.{each_one, field_scalars, field_types, inside-out, inside-relation, scalars_of-Card, scalars_of-Rec, true-le}
 use Rattle.dbpl_core.specs.Programs.{cardinal_field, flat_type, is_cardinal_field, is_flat}
-use Rattle.dbpl_database.specs.Databases.{host_width_level, is_joined_name, is_kept, is_kept_name, is_kept_type, is_no_stop, key_size, key_width, key_width_level}
+use Rattle.dbpl_database.specs.Databases.{is_joined_name, is_kept, is_kept_name, is_kept_type, is_no_stop, key_size, key_width}
 use Rattle.dbpl_relation.specs.Relations.{is_relation_type}
 use Rattle.dbpl_value.proofs.TypeParts.{by_answers-out, by_parts-out}
-use Rattle.dbpl_value.specs.Types.{are_names, by_answers, by_parts, depth_level, depth_of, element_of, fields_of, greatest_of, inside, inside_level, is_identifier, is_key_field, is_none_left, is_record, is_relation, is_same_name, is_sound, is_sound_level, is_type, keeps_rules, keys_of, relations_level, relations_of, scalars_level, scalars_of}
-use Rattle.dbpl_value.specs.declared.db_type.DbType.{DbType, DbType-F, map-DbType, out-DbType}
+use Rattle.dbpl_value.specs.Types.{are_names, depth_level, depth_of, element_of, fields_of, greatest_of, inside, is_identifier, is_key_field, is_none_left, is_record, is_same_name, is_sound, is_sound_level, keeps_rules, keys_of, relations_level, relations_of, scalars_level, scalars_of}
+use Rattle.dbpl_value.specs.declared.db_type.DbType.{DbType}
 use Rattle.dbpl_value.specs.declared.db_type.DbType.TheOpen as kinds
 use Rattle.dbpl_value.specs.declared.db_type.DbType.TheVariants as types
 use Rattle.dbpl_value.specs.declared.db_type.DbType.TheVariants.{outs-Card, outs-Rec, outs-Rel}

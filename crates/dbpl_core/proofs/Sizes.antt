@@ -1,5 +1,5 @@
 -- A record of a flat type is small.
-use Rattle.std.proofs.Common.{◌≡◌, ◌+◌, ◌*◌, ◌≤◌, ℕ, Bool, true, ◌&&◌, List, [], ◌∷◌, length, map, refl, ap, sym, subst, ◌∙◌, arith}
+use Rattle.std.proofs.Common.{◌≡◌, ◌+◌, ◌*◌, ◌≤◌, ℕ, Bool, true, ◌&&◌, List, [], ◌∷◌, length, map, refl, ap, sym, ◌∙◌, arith}
 use Rattle.std.proofs.lemmas.Bool.Decides.{nat_tests}
 use Rattle.std.proofs.lemmas.List.Sums.{sum_by-cons}
 use Rattle.std.specs.Cmp.{first_so, second_so}
@@ -14,7 +14,7 @@ use Rattle.dbpl_value.proofs.SizesLemmas.{field_size, size_of-Rec}
 use Rattle.dbpl_value.proofs.TypeParts.{by_answers-out, by_parts-out}
 use Rattle.dbpl_value.specs.Keys.{parts_of}
 use Rattle.dbpl_value.specs.Sizes.{size_level, size_of}
-use Rattle.dbpl_value.specs.Types.{by_parts, depth_of, element_level, element_of, fields_of, inside, inside_level, is_sound, is_sound_level, is_type, keeps_rules, relations_of, scalars_level, scalars_of}
+use Rattle.dbpl_value.specs.Types.{depth_of, element_level, element_of, fields_of, inside, inside_level, is_sound, is_sound_level, is_type, keeps_rules, relations_of, scalars_level, scalars_of}
 use Rattle.dbpl_value.specs.declared.db_type.DbType.{DbType, DbType-F, map-DbType, out-DbType}
 use Rattle.dbpl_value.specs.declared.db_type.DbType.TheOpen as kinds
 use Rattle.dbpl_value.specs.declared.db_type.DbType.TheVariants as types

@@ -1,11 +1,11 @@
 -- What a program does, statement by statement.
-use Rattle.std.proofs.Common.{◌≡◌, ◌+◌, ℕ, zero, suc, List, [], ◌∷◌, ◌++◌, ap, append_assoc, arith, length, map, refl, sym, subst, ◌∙◌, Option, Some, Result, Ok, Err}
+use Rattle.std.proofs.Common.{◌≡◌, ℕ, zero, suc, List, [], ◌∷◌, ◌++◌, ap, append_assoc, arith, length, map, refl, sym, subst, ◌∙◌, Some, Result, Ok, Err}
 use Rattle.std.proofs.lemmas.List.{append-nil}
 use Rattle.dbpl_core.proofs.Databases.{named-after, relation_named-is, with_named-own, with_named-twice}
 use Rattle.dbpl_core.specs.Events.{Commit, Event, Out}
 use Rattle.dbpl_core.specs.Insertions.{and_then, inserted, inserted_all, right_side, with_set}
-use Rattle.dbpl_core.specs.Meaning.{◌>>=◌, Doing, Done, Ended, Going, Outcome, Ran, Standing, State, Stops, Trapped, action_meaning, block, body_meaning, commits, gives, go_on, insertion_meaning, makes, meaning, outcome_of, prints_bytes, puts, reads, relation_named, stops, transaction_meaning, before_zero, turn, turn_with, untrapped, with_named}
-use Rattle.dbpl_core.specs.Whole.{after_events, by_transaction, comes_to, transacted_by, turns_of, whole}
+use Rattle.dbpl_core.specs.Meaning.{◌>>=◌, Done, Ended, Outcome, Ran, Standing, State, Stops, Trapped, action_meaning, block, commits, gives, go_on, insertion_meaning, makes, meaning, outcome_of, puts, reads, relation_named, stops, transaction_meaning, before_zero, turn, with_named}
+use Rattle.dbpl_core.specs.Whole.{after_events, by_transaction, comes_to, transacted_by, whole}
 use Rattle.dbpl_core.specs.declared.action.Action.{Action}
 use Rattle.dbpl_core.specs.declared.action.Action.TheVariants.{Transact, WriteLn, WriteString}
 use Rattle.dbpl_core.specs.declared.insertion.Insertion.{Insertion}

@@ -1,10 +1,10 @@
 -- More turns only add events, and a run that has come to an end stays as it is. It holds of phrases, and of what is made
 -- of them.
-use Rattle.std.proofs.Common.{◌≡◌, ◌≢◌, ◌+◌, ℕ, zero, suc, List, [], ◌∷◌, ◌++◌, ap, append_assoc, arith, map, refl, sym, ◌∙◌, Result, Ok, Err}
+use Rattle.std.proofs.Common.{◌≡◌, ◌+◌, ℕ, zero, suc, List, [], ◌∷◌, ◌++◌, ap, append_assoc, arith, map, refl, sym, ◌∙◌, Result, Ok, Err}
 use Rattle.std.proofs.lemmas.List.{append-nil}
-use Rattle.dbpl_core.specs.Events.{Commit, Event, Out}
+use Rattle.dbpl_core.specs.Events.{Commit, Event}
 use Rattle.dbpl_core.specs.Insertions.{right_side, with_set}
-use Rattle.dbpl_core.specs.Meaning.{◌>>=◌, Doing, Done, Ended, Going, Outcome, Ran, Standing, State, Stops, Trapped, action_meaning, block, body_meaning, commits, gives, go_on, insertion_meaning, makes, meaning, outcome_of, puts, reads, stops, transaction_meaning, turn, turn_with, untrapped}
+use Rattle.dbpl_core.specs.Meaning.{◌>>=◌, Doing, Done, Ended, Going, Outcome, Ran, State, Stops, Trapped, action_meaning, block, body_meaning, commits, gives, go_on, insertion_meaning, makes, meaning, outcome_of, puts, reads, stops, transaction_meaning, turn, turn_with, untrapped}
 use Rattle.dbpl_core.specs.declared.action.Action.{Action}
 use Rattle.dbpl_core.specs.declared.action.Action.TheVariants.{Transact, WriteLn, WriteString}
 use Rattle.dbpl_core.specs.declared.insertion.Insertion.{Insertion}

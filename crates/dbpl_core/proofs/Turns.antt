@@ -3,7 +3,7 @@ use Rattle.std.proofs.Common.{◌≡◌, ◌+◌, ◌≤◌, ℕ, zero, suc, Lis
 use Rattle.dbpl_core.proofs.Steady.{GoesFrom, steady}
 use Rattle.dbpl_core.specs.Events.{Event}
 use Rattle.dbpl_core.specs.Insertions.{right_side, with_set}
-use Rattle.dbpl_core.specs.Meaning.{◌>>=◌, Doing, Done, Ended, Going, Outcome, Ran, Standing, State, Stops, Trapped, action_meaning, block, body_meaning, commits, gives, go_on, insertion_meaning, makes, meaning, outcome_of, puts, reads, stops, transaction_meaning, turn, turn_with, untrapped}
+use Rattle.dbpl_core.specs.Meaning.{◌>>=◌, Doing, Done, Going, Outcome, Ran, State, Stops, Trapped, action_meaning, block, body_meaning, commits, gives, go_on, insertion_meaning, makes, meaning, outcome_of, puts, reads, stops, transaction_meaning, turn, turn_with, untrapped}
 use Rattle.dbpl_core.specs.Whole.{turns_of, whole}
 use Rattle.dbpl_core.specs.declared.action.Action.{Action}
 use Rattle.dbpl_core.specs.declared.action.Action.TheVariants.{Transact, WriteLn, WriteString}

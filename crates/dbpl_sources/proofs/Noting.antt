@@ -38,7 +38,9 @@ module _ (work : Work) (after : History) (counts : Counts) (noted : IsNotedBehin
   pub notes_on : OnlyNotes work → OnlyNotes (reported work after counts)
   notes_on only told =
       let first = only told in
-      let second = noted.notes told in
-      (first.0 ++ second.0, second.1 ∙ ap (λ (h : History). more h (map Noted second.0)) first.1
-      ∙ more-more work.before (map Noted first.0) (map Noted second.0)
-      ∙ ap (λ (events : List Event). more work.before events) (sym (map-append Noted first.0 second.0)))
+      let second = noted.notes told in (
+        first.0 ++ second.0,
+        second.1 ∙ ap (λ (h : History). more h (map Noted second.0)) first.1
+            ∙ more-more work.before (map Noted first.0) (map Noted second.0)
+            ∙ ap (λ (events : List Event). more work.before events) (sym (map-append Noted first.0 second.0)),
+      )

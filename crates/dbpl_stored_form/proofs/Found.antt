@@ -1,5 +1,5 @@
 -- What is known of a part where something was found in it.
-use Rattle.std.proofs.Common.{◌≡◌, ◌&&◌, Bool, true, false, if◌then◌else◌, List, [], ◌∷◌, ◌++◌, Option, Some, None, option_and_then, option_map, refl, sym, ap, ◌∙◌}
+use Rattle.std.proofs.Common.{◌≡◌, ◌&&◌, Bool, true, false, if◌then◌else◌, List, [], ◌∷◌, ◌++◌, Option, Some, None, option_and_then, option_map, refl, ap, ◌∙◌}
 use Rattle.std.proofs.lemmas.List.Folds.{list_all-append}
 use Rattle.std.specs.List.{list_all}
 use Rattle.dbpl_stored_form.specs.Lists.{all_of, joined, one_of, passing}
@@ -47,10 +47,10 @@ all_pass gives test each (x ∷ xs) ys e =
     let parts = joined_of (gives x) (all_of gives xs) ys e in
     let front = parts.0 in
     let back = parts.1 in
-    rw (← parts.2.2.2)
+    rw (← parts.4)
     (list_all-append test front back
-    ∙ ap (λ (b : Bool). b && list_all test back) (each x front parts.2.0)
-    ∙ all_pass gives test each xs back parts.2.2.1)
+    ∙ ap (λ (b : Bool). b && list_all test back) (each x front parts.2)
+    ∙ all_pass gives test each xs back parts.3)
 
 pub one_passes : {A : Type 0} (test : A → Bool) (x : A) (ys : List A) → x ∷ [] ≡ ys → test x ≡ true → list_all test ys ≡ true
 one_passes test x ys e passes = rw (← e, passes) refl

@@ -1,3 +1,4 @@
 pub mod Found
 pub mod SmallLaw
+pub mod TextLaw
 pub mod Turns

@@ -1,5 +1,5 @@
 -- A program of the form is one that can be run.
-use Rattle.std.proofs.Common.{◌≡◌, ℕ, ◌+◌, ◌≤◌, ℤ, pos, ◌&&◌, Bool, true, false, if◌then◌else◌, List, [], ◌∷◌, ◌++◌, map, length, Some, refl, ap, ◌∙◌, arith}
+use Rattle.std.proofs.Common.{◌≡◌, ℕ, ◌+◌, ◌≤◌, ℤ, pos, ◌&&◌, Bool, true, false, if◌then◌else◌, List, [], ◌∷◌, ◌++◌, map, length, Some, option_and_then, refl, ap, ◌∙◌, arith}
 use Rattle.std.proofs.lemmas.Bool.{and_parts}
 use Rattle.std.proofs.lemmas.List.{length-map}
 use Rattle.std.specs.Cmp.Derive.{both_true}
@@ -14,7 +14,7 @@ use Rattle.dbpl_database.specs.Databases.{is_kept}
 use Rattle.dbpl_stored_form.proofs.Found.{all_pass, made_of, one_is, one_passes, passed, then_of, under}
 use Rattle.dbpl_stored_form.specs.DataModules.{are_fields, are_names_different, can_be_kept, declared_in, has_frame, is_sound, is_variable_name, joined_name, schema_of}
 use Rattle.dbpl_stored_form.specs.Lists.{all_of, one_of, passing}
-use Rattle.dbpl_stored_form.specs.Programs.{has_frame as has_program_frame, program_of, program_over, stored_of, transaction_in, with_routine, with_statements}
+use Rattle.dbpl_stored_form.specs.Programs.{has_frame as has_program_frame, program_of, stored_of, transaction_in, with_routine, with_statements}
 use Rattle.dbpl_stored_form.specs.Statements.{actions_in, aggregate_named, cardinal_in, cardinal_of, insertion_by, insertion_in, insertion_level, insertion_of, insertions_in, is_added_to, is_nothing, number_of, numbers_in, plain_of, row_of, rows_in, statements_of}
 use Rattle.dbpl_stored_form.specs.declared.schema.Schema.{Schema}
 use Rattle.dbpl_tree.specs.declared.element.Element.{Element}
@@ -35,16 +35,19 @@ use Rattle.dbpl_value.specs.declared.field.Field.{Field}
 
 -- ---- rows
 
+none-below : (n : ℕ) → nat_le 0 n ≡ true
+none-below n = grind (arith, nat_tests)
+
 number-small : (n : ℕ) (z : ℤ) → cardinal_of n ≡ Some z → is_in_cardinal z ≡ true
 number-small n z e =
     let small = under (nat_le n 4294967295) (Some (pos n)) z e in
     let is : pos n ≡ z = cc (small.1) in
-    rw (← is) (small.0)
+    rw (← is) (both_true (none-below n) small.0)
 
 numbers-small : (element : Element) (numbers : List ℤ) → numbers_in element ≡ Some numbers → list_all is_in_cardinal numbers ≡ true
 numbers-small element numbers e =
     let one = one_is (cardinal_in element) numbers e in
-    let number = then_of cardinal_of _ one.0 one.1 in
+    let number = then_of cardinal_of (option_and_then number_of (plain_of element)) one.0 one.1 in
     one_passes is_in_cardinal one.0 numbers one.2 (number-small number.0 one.0 number.2)
 
 fields-there : (key : List ℕ) (names : List (List ℕ)) → fields_of (element_of (flat_type key names)) ≡ map cardinal_field names
@@ -67,13 +70,15 @@ module _ (schema : Schema) where
       let numbers = then_of (passing (λ (r : List ℤ). nat_eq (length r) (length schema.fields))) (all_of numbers_in a.elements) row e in
       let right = passed (λ (r : List ℤ). nat_eq (length r) (length schema.fields)) numbers.0 row numbers.2 in
       let each = all_pass numbers_in is_in_cardinal numbers-small a.elements numbers.0 numbers.1 in
-      both_true (rw (fields-many, ← right.1) right.0) (rw (← right.1) each)
+      let many : nat_eq (length row) (length row_fields) ≡ true = rw (fields-many, ← right.1) right.0 in
+      let small : list_all is_in_cardinal row ≡ true = rw (← right.1) each in
+      both_true many small
 
   rows-fit : (element : Element) (rows : List (List ℤ)) → rows_in schema element ≡ Some rows →
       list_all (is_row row_fields) rows ≡ true
   rows-fit element rows e =
-      let one = one_is _ rows e in
-      let row = then_of (row_of schema) _ one.0 one.1 in
+      let one = one_is (option_and_then (row_of schema) (option_and_then (aggregate_named schema.element) (plain_of element))) rows e in
+      let row = then_of (row_of schema) (option_and_then (aggregate_named schema.element) (plain_of element)) one.0 one.1 in
       one_passes (is_row row_fields) one.0 rows one.2 (row-fits row.0 one.0 row.2)
 
   -- ---- insertions

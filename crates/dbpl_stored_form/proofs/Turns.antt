@@ -1,5 +1,5 @@
 -- The turns of the loops that put behind one another what each phrase of a list gives.
-use Rattle.std.proofs.Common.{◌≡◌, ℕ, suc, ◌+◌, ◌<◌, Bool, true, false, if◌then◌else◌, List, [], ◌∷◌, ◌++◌, Option, Some, None, option_map, refl, sym, ap, ◌∙◌, add-one, append-nil, append_assoc, take, drop, get_or, length}
+use Rattle.std.proofs.Common.{◌≡◌, ℕ, suc, ◌+◌, ◌<◌, Bool, true, false, if◌then◌else◌, List, [], ◌∷◌, ◌++◌, Option, Some, None, refl, sym, ap, ◌∙◌, add-one, append-nil, append_assoc, take, drop, get_or, length}
 use Rattle.std.proofs.Math.Seq.{drop-cons}
 use Rattle.std.proofs.lemmas.List.{take-append-drop, take_more}
 use Rattle.dbpl_stored_form.specs.Lists.{all_of, joined}
@@ -35,36 +35,56 @@ at_index xs i x here within =
     sym (take-append-drop i xs)
     ∙ ap (λ ys. take i xs ++ ys) (rw (add-one, drop-cons xs i x within) (ap (λ y. y ∷ drop (suc i) xs) (sym here)))
 
+-- what a phrase gave, where it was of the form, and where it was not
+added_some : {A : Type 0} (added : Bool) (found : Option A) (new : A) → found ≡ (if added then Some new else None) → added ≡ true →
+    found ≡ Some new
+added_some added found new e was = e ∙ ap (λ b. if b then Some new else None) was
+
+added_none : {A : Type 0} (added : Bool) (found : Option A) (new : A) → found ≡ (if added then Some new else None) → added ≡ false →
+    found ≡ None
+added_none added found new e was = e ∙ ap (λ b. if b then Some new else None) was
+
 -- the phrases so far with one more
-pub turn_more : {A B : Type 0} (gives : A → Option (List B)) (head xs : List A) (i : ℕ) (x : A) (all new : List B) →
-    x ≡ get_or xs i x → i < length xs → all_of gives (head ++ take i xs) ≡ Some all → joined (Some all) (gives x) ≡ Some new →
+pub turn_more : {A B : Type 0} (gives : A → Option (List B)) (head xs : List A) (i : ℕ) (x : A) (added : Bool) (all new : List B) →
+    x ≡ get_or xs i x → i < length xs → all_of gives (head ++ take i xs) ≡ Some all →
+    joined (Some all) (gives x) ≡ (if added then Some new else None) → added ≡ true →
     all_of gives (head ++ take (i + 1) xs) ≡ Some new
-turn_more gives head xs i x all new here within so_far next =
+turn_more gives head xs i x added all new here within so_far next was =
     ap (λ ys. all_of gives (head ++ ys)) (take_more xs i x within ∙ ap (λ y. take i xs ++ y ∷ []) (sym here))
     ∙ ap (all_of gives) (sym (append_assoc head (take i xs) (x ∷ [])))
     ∙ all_of-append gives (head ++ take i xs) (x ∷ [])
     ∙ ap (λ front. joined front (joined (gives x) (Some []))) so_far
     ∙ ap (joined (Some all)) (joined-nothing (gives x))
-    ∙ next
+    ∙ added_some added (joined (Some all) (gives x)) new next was
 
 -- one of another form
-pub turn_none : {A B : Type 0} (gives : A → Option (List B)) (head xs : List A) (i : ℕ) (x : A) (all : List B) →
-    x ≡ get_or xs i x → i < length xs → all_of gives (head ++ take i xs) ≡ Some all → joined (Some all) (gives x) ≡ None →
+pub turn_none : {A B : Type 0} (gives : A → Option (List B)) (head xs : List A) (i : ℕ) (x : A) (added : Bool) (all new : List B) →
+    x ≡ get_or xs i x → i < length xs → all_of gives (head ++ take i xs) ≡ Some all →
+    joined (Some all) (gives x) ≡ (if added then Some new else None) → added ≡ false →
     all_of gives (head ++ xs) ≡ None
-turn_none gives head xs i x all here within so_far next =
+turn_none gives head xs i x added all new here within so_far next was =
     ap (λ ys. all_of gives (head ++ ys)) (at_index xs i x here within)
     ∙ ap (all_of gives) (sym (append_assoc head (take i xs) (x ∷ drop (i + 1) xs)))
     ∙ all_of-append gives (head ++ take i xs) (x ∷ drop (i + 1) xs)
     ∙ ap (λ front. joined front (joined (gives x) (all_of gives (drop (i + 1) xs)))) so_far
     ∙ joined-joined (Some all) (gives x) (all_of gives (drop (i + 1) xs))
-    ∙ ap (λ front. joined front (all_of gives (drop (i + 1) xs))) next
+    ∙ ap (λ front. joined front (all_of gives (drop (i + 1) xs))) (added_none added (joined (Some all) (gives x)) new next was)
 
 -- the first of several
-pub first_none : {A B : Type 0} (gives : A → Option (List B)) (first : A) (others : List A) → joined (Some []) (gives first) ≡ None →
+pub first_none : {A B : Type 0} (gives : A → Option (List B)) (first : A) (others : List A) (added : Bool) (none new : List B) →
+    none ≡ [] → joined (Some none) (gives first) ≡ (if added then Some new else None) → added ≡ false →
     all_of gives (first ∷ others) ≡ None
-first_none gives first others none =
-    ap (λ front. joined front (all_of gives others)) (sym (nothing-joined (gives first)) ∙ none)
+first_none gives first others added none new empty next was =
+    ap (λ front. joined front (all_of gives others))
+    (sym (nothing-joined (gives first))
+    ∙ ap (λ front. joined (Some front) (gives first)) (sym empty)
+    ∙ added_none added (joined (Some none) (gives first)) new next was)
 
-pub first_some : {A B : Type 0} (gives : A → Option (List B)) (first : A) (all : List B) → joined (Some []) (gives first) ≡ Some all →
+pub first_some : {A B : Type 0} (gives : A → Option (List B)) (first : A) (added : Bool) (none all : List B) →
+    none ≡ [] → joined (Some none) (gives first) ≡ (if added then Some all else None) → added ≡ true →
     all_of gives (first ∷ []) ≡ Some all
-first_some gives first all some = joined-nothing (gives first) ∙ sym (nothing-joined (gives first)) ∙ some
+first_some gives first added none all empty next was =
+    joined-nothing (gives first)
+    ∙ sym (nothing-joined (gives first))
+    ∙ ap (λ front. joined (Some front) (gives first)) (sym empty)
+    ∙ added_some added (joined (Some none) (gives first)) all next was

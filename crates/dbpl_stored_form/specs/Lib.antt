@@ -4,3 +4,4 @@ pub mod Lists
 pub mod Names
 pub mod Programs
 pub mod Statements
+pub mod Texts

@@ -1,5 +1,5 @@
 //! What a program imports.
-ghost use Rattle.std.specs.Prelude.{◌≡◌, ◌∷◌, ◌&&◌, IfOk};
+ghost use Rattle.std.specs.Prelude.{◌≡◌, ◌∷◌, IfOk};
 ghost use Rattle.std.specs.List.{list_all, list_any};
 ghost use Rattle.dbpl_stored_form.specs.Imports as spec;
 ghost use Rattle.dbpl_stored_form.specs.Names.{has_name as has_name_of};
@@ -10,15 +10,16 @@ use dbpl_base::{List, Memory, Name};
 use dbpl_tree::{Ident, Idents, Import};
 use std::alloc::Global;
 
+fn is_one_of(idents: &[Ident], name: &[u8]) -> bool
+    ensures { result ≡ list_any (has_name_of name.now) idents.now }
+{
+    idents.iter().any(|ident| has_name(ident, name))
+}
+
 fn stands_in(idents: &Idents, name: &[u8]) -> bool
     ensures { result ≡ list_any (has_name_of name.now) (idents.now.first ∷ idents.now.others) }
 {
-    has_name(&idents.first, name)
-        || idents
-            .others
-            .as_slice()
-            .iter()
-            .any(|ident| has_name(ident, name))
+    has_name(&idents.first, name) || is_one_of(idents.others.as_slice(), name)
 }
 
 /// Whether the import brings this name of this module.
@@ -46,15 +47,16 @@ fn is_declared(schema: &Schema, ident: &Ident) -> bool
         || has_name(ident, schema.variable.as_bytes())
 }
 
+fn is_each_declared(schema: &Schema, idents: &[Ident]) -> bool
+    ensures { result ≡ list_all (spec.is_declared schema.now) idents.now }
+{
+    idents.iter().all(|ident| is_declared(schema, ident))
+}
+
 fn are_declared(schema: &Schema, idents: &Idents) -> bool
     ensures { result ≡ list_all (spec.is_declared schema.now) (idents.now.first ∷ idents.now.others) }
 {
-    is_declared(schema, &idents.first)
-        && idents
-            .others
-            .as_slice()
-            .iter()
-            .all(|ident| is_declared(schema, ident))
+    is_declared(schema, &idents.first) && is_each_declared(schema, idents.others.as_slice())
 }
 
 /// A procedure of InOut that a program of the form may call.
@@ -65,10 +67,16 @@ fn is_printer(ident: &Ident) -> bool
     has_name(ident, b"WriteString") || has_name(ident, b"WriteLn")
 }
 
+fn is_each_printer(idents: &[Ident]) -> bool
+    ensures { result ≡ list_all spec.is_printer idents.now }
+{
+    idents.iter().all(is_printer)
+}
+
 fn are_printers(idents: &Idents) -> bool
     ensures { result ≡ list_all spec.is_printer (idents.now.first ∷ idents.now.others) }
 {
-    is_printer(&idents.first) && idents.others.as_slice().iter().all(is_printer)
+    is_printer(&idents.first) && is_each_printer(idents.others.as_slice())
 }
 
 /// Whether this imports from the database module or from InOut, and there what the form wants.
@@ -91,15 +99,21 @@ fn are_all_lines(schema: &Schema, imports: &[Import]) -> bool
     imports.iter().all(|import| is_line(schema, import))
 }
 
+/// Whether the name is imported from the database module.
+fn is_brought(schema: &Schema, imports: &[Import], name: &Name) -> bool
+    ensures { result ≡ spec.is_imported schema.now.unit name.now imports.now }
+{
+    is_imported(imports, schema.unit.as_bytes(), name.as_bytes())
+}
+
 /// Whether the imports are those that the form wants.
 pub(crate) fn are_lines(schema: &Schema, imports: &[Import]) -> bool
     ensures { result ≡ spec.are_lines schema.now imports.now }
 {
-    let unit = schema.unit.as_bytes();
     are_all_lines(schema, imports)
-        && is_imported(imports, unit, schema.element.as_bytes())
-        && is_imported(imports, unit, schema.relation.as_bytes())
-        && is_imported(imports, unit, schema.variable.as_bytes())
+        && is_brought(schema, imports, &schema.element)
+        && is_brought(schema, imports, &schema.relation)
+        && is_brought(schema, imports, &schema.variable)
 }
 
 fn names_in(import: &Import) -> &Idents

@@ -11,6 +11,7 @@ mod imports;
 mod insertions;
 mod laws;
 mod names;
+mod reading;
 mod schema;
 mod statements;
 mod storing;
@@ -18,5 +19,6 @@ mod storing;
 mod tests;
 
 pub use form::stored;
-pub use laws::stored_is_small;
+pub use laws::{one_answer, stored_is_small};
+pub use reading::read_stored;
 pub use schema::Schema;

@@ -220,7 +220,7 @@ fn text(alloc: Global, bytes: &[u8]) -> Result<Arguments, Memory> {
     })
 }
 
-fn call(alloc: Global, call: Call) -> Result<Statement, Memory> {
+fn call_of(alloc: Global, call: Call) -> Result<Statement, Memory> {
     match call {
         Call::Nothing => Ok(Statement::Empty(place(1, 1))),
         Call::Name(name) => Ok(Statement::Call(designator(alloc, name)?, None)),
@@ -237,10 +237,10 @@ fn body(alloc: Global, calls: &[Call]) -> Result<Option<Statements>, Memory> {
     };
     let mut others = List::new(alloc);
     for next in behind {
-        others.push(call(alloc, *next)?)?;
+        others.push(call_of(alloc, *next)?)?;
     }
     Ok(Some(Statements {
-        first: Boxed::new(alloc, call(alloc, *first)?)?,
+        first: Boxed::new(alloc, call_of(alloc, *first)?)?,
         others,
     }))
 }

@@ -63,7 +63,6 @@ pub record Runs (store schema program : List ℕ) (work : Work) (answer : Status
   -- Then nothing was said, and the store is as it was.
   pub unread : IsTrue work.tells → IsOfFiles answer →
       EachMoment (LeavesOnlyAt store (IsLeft (store_of (now work.before) store) (now work.before).said)) work.before work.after
-
   -- Nothing but this store and the bytes said changes, and faults come with their counts.
   pub only : IsTrue work.tells → EachMoment (ChangesOnly store (now work.before)) work.before work.after
   pub source_fault : answer ≡ status.SourceFault → Rose work.shelf_faults_before work.shelf_faults_after

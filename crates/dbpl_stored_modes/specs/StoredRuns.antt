@@ -130,7 +130,6 @@ pub record RunsStored (store : List ℕ) (stored : StoredProgram) (work : Work) 
   pub differs : IsTrue work.tells → HasOther store work stored → IsUnlessUnopened answer (status.SchemaDiffers stored.relation.name)
   pub unrun : IsTrue work.tells → IsUnrun answer →
       EachMoment (LeavesOnlyAt store (IsLeft (store_of (now work.before) store) (now work.before).said)) work.before work.after
-
   -- A store to which the program doesn't bind stays as it was, and nothing is said, whatever the answer.
   pub unbound : IsTrue work.tells → ((database bound : List Bound) → ReadsOver store work stored database bound → ⊥) →
       EachMoment (LeavesOnlyAt store (IsLeft (store_of (now work.before) store) (now work.before).said)) work.before work.after
@@ -138,7 +137,6 @@ pub record RunsStored (store : List ℕ) (stored : StoredProgram) (work : Work) 
   pub unnamed : store ≡ no_store → OnlyNotes work × (answer ≢ status.DiskFault)
   -- Nothing but this store and the bytes said changes.
   pub only : IsTrue work.tells → EachMoment (ChangesOnly store (now work.before)) work.before work.after
-
   -- Faults come with their counts.
   pub source_fault : answer ≡ status.SourceFault → Rose work.shelf_faults_before work.shelf_faults_after
   pub disk_fault : answer ≡ status.DiskFault → Rose work.counts_before.disk_faults work.counts_after.disk_faults

@@ -301,13 +301,7 @@ pub fn command_over(
     for word in words {
         names.push(name_of(alloc, word)?)?;
     }
-    Ok(counted::<Brand>(
-        alloc,
-        names.as_slice(),
-        shelf,
-        world,
-        Blank::new(1),
-    ))
+    Ok(counted::<Brand>(alloc, names.as_slice(), shelf, world, Blank::new(1)))
 }
 
 fn counted<L: Ledger>(

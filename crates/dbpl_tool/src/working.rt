@@ -63,11 +63,13 @@ pub(crate) fn work<W: World, S: Shelf>(
     match request(words) {
         Some(Request::RunAlone(file)) => run_alone(alloc, file, shelf, world),
         Some(Request::Create(store)) => create_store(alloc, store, world),
-        Some(Request::Run {
-            store,
-            data,
-            program,
-        }) => run_files(alloc, store, data, program, shelf, world),
+        Some(
+            Request::Run {
+                store,
+                data,
+                program,
+            },
+        ) => run_files(alloc, store, data, program, shelf, world),
         None => Status::BadWords,
     }
 }

@@ -1,5 +1,5 @@
 -- By the law over any number of turns.
-use Rattle.std.proofs.Common.{◌≡◌, ◌∙◌, ◌+◌, refl, sym}
+use Rattle.std.proofs.Common.{◌+◌, refl}
 use Rattle.dbpl_alone.proofs.MeaningLaws.{steady}
 use Rattle.dbpl_alone.proofs.laws.meaning_is_steady.Goals as goal
 

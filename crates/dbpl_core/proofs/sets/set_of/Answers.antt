@@ -1,5 +1,5 @@
 -- A row is put where it clashes with none of those before, and else there is no set.
-use Rattle.std.proofs.Common.{◌≡◌, ◌∷◌, [], List, ap, sym, ◌∙◌}
+use Rattle.std.proofs.Common.{ap, sym, ◌∙◌}
 use Rattle.std.proofs.lemmas.Result.{err_from_is_err_and}
 use Rattle.dbpl_core.proofs.Adding.{adding-none, none-is_of, row-clashes, row-is_of, row-put, rows-end, taken}
 use Rattle.dbpl_core.specs.Sets.{record_of}

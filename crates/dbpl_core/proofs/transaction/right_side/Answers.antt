@@ -1,5 +1,5 @@
 -- The rows are records of the relation.
-use Rattle.std.proofs.Common.{◌≡◌, ap, map, sym, true, ◌∙◌}
+use Rattle.std.proofs.Common.{ap, map, ◌∙◌}
 use Rattle.std.specs.List.{list_all}
 use Rattle.dbpl_core.proofs.Rows.{rows-records}
 use Rattle.dbpl_core.specs.Sets.{record_of}

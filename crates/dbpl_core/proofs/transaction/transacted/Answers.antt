@@ -1,8 +1,5 @@
 -- Each insertion is one of the program, and the relation is of a type whose records are small.
-use Rattle.std.proofs.Common.{◌≡◌, ap, sym, ◌∙◌}
-use Rattle.std.specs.List.{list_all}
 use Rattle.dbpl_core.proofs.Programs.{small-each, small-flat, small-records}
-use Rattle.dbpl_core.specs.Programs.{are_rows}
 use Rattle.dbpl_core.proofs.transaction.transacted.Goals as goal
 
 pub put_set-requires-clause-flat : goal.put_set-requires-clause-flat

@@ -6,4 +6,4 @@ use Rattle.dbpl_stored_form.proofs.actions.actions_of.Given as goal
 
 abbrev pub invariant-loop-statement : goal.invariant-loop-statement
 invariant-loop-statement l =
-    all_of (actions_in l.fn.transaction.now l.fn.imports.now) (l.fn.first.now ∷ take l.statement-index l.others) ≡ Some l.actions
+    all_of (actions_in l.fn.transaction l.fn.imports) (l.fn.first ∷ take l.statement-index l.others) ≡ Some l.actions

@@ -5,4 +5,4 @@ use Rattle.dbpl_stored_form.specs.Statements.{rows_in}
 use Rattle.dbpl_stored_form.proofs.aggregates.rows_of.Given as goal
 
 abbrev pub invariant-loop-element : goal.invariant-loop-element
-invariant-loop-element l = all_of (rows_in l.fn.schema.now) (take l.element-index l.elements) ≡ Some l.rows
+invariant-loop-element l = all_of (rows_in l.fn.schema) (take l.element-index l.elements) ≡ Some l.rows

@@ -5,4 +5,4 @@ use Rattle.dbpl_stored_form.specs.Lists.{all_of}
 use Rattle.dbpl_stored_form.proofs.data_modules.fields_in.Given as goal
 
 abbrev pub invariant-loop-group : goal.invariant-loop-group
-invariant-loop-group l = all_of fields_named (l.fn.first.now ∷ take l.group-index l.others) ≡ Some l.names
+invariant-loop-group l = all_of fields_named (l.fn.first ∷ take l.group-index l.others) ≡ Some l.names

@@ -6,4 +6,4 @@ use Rattle.dbpl_stored_form.proofs.insertions.insertions_of.Given as goal
 
 abbrev pub invariant-loop-statement : goal.invariant-loop-statement
 invariant-loop-statement l =
-    all_of (insertions_in l.fn.schema.now) (l.fn.first.now ∷ take l.statement-index l.others) ≡ Some l.insertions
+    all_of (insertions_in l.fn.schema) (l.fn.first ∷ take l.statement-index l.others) ≡ Some l.insertions

@@ -4,4 +4,4 @@ use Rattle.dbpl_stored_form.proofs.names.add_names.Given as goal
 
 abbrev pub invariant-loop-ident : goal.invariant-loop-ident
 invariant-loop-ident l =
-    l.names ≡ l.fn.names.old ++ l.fn.idents.now.first.name ∷ map (λ ident. ident.name) (take l.ident-index l.fn.idents.now.others)
+    l.names ≡ l.fn.names ++ l.fn.idents.first.name ∷ map (λ ident. ident.name) (take l.ident-index l.fn.idents.others)
