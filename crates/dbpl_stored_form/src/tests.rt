@@ -267,18 +267,26 @@ fn relation(alloc: Global, sketch: &Sketch) -> Result<TypeTree, Memory> {
     Ok(TypeTree::Relation(place(1, 1), keys, qual(alloc, sketch.over)?))
 }
 
-fn type_part(alloc: Global, sketch: &Sketch) -> Result<Common, Memory> {
-    let mut types = List::new(alloc);
+fn element_decl(alloc: Global, sketch: &Sketch) -> Result<TypeDecl, Memory> {
     let kind = record(alloc, sketch)?;
-    types.push(TypeDecl {
+    Ok(TypeDecl {
         name: ident(alloc, sketch.element)?,
         kind,
-    })?;
+    })
+}
+
+fn relation_decl(alloc: Global, sketch: &Sketch) -> Result<TypeDecl, Memory> {
     let kind = relation(alloc, sketch)?;
-    types.push(TypeDecl {
+    Ok(TypeDecl {
         name: ident(alloc, sketch.relation)?,
         kind,
-    })?;
+    })
+}
+
+fn type_part(alloc: Global, sketch: &Sketch) -> Result<Common, Memory> {
+    let mut types = List::new(alloc);
+    types.push(element_decl(alloc, sketch)?)?;
+    types.push(relation_decl(alloc, sketch)?)?;
     Ok(Common::Plain(PlainDecl::Type(place(1, 1), types)))
 }
 

@@ -1,7 +1,6 @@
 -- From each moment of a run to whatever a stop might leave.
-use Rattle.std.proofs.Common.{◌≡◌, ◌⊎◌, ℕ, List, IsTrue, inl, inr, refl}
+use Rattle.std.proofs.Common.{ℕ, List, IsTrue, inl, inr}
 use Rattle.dbpl_base.specs.declared.status.Status.{Status}
-use Rattle.dbpl_base.specs.declared.status.Status.TheVariants as status
 use Rattle.dbpl_core.specs.Whole.{events_of}
 use Rattle.dbpl_core.specs.declared.stored_program.StoredProgram.{StoredProgram}
 use Rattle.dbpl_database.specs.Binding.{Binds}

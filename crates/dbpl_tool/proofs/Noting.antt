@@ -1,5 +1,5 @@
 -- The report behind the work.
-use Rattle.std.proofs.Common.{◌≡◌, ◌∙◌, ◌⊎◌, ◌≤◌, ℕ, List, ◌++◌, IfErr, IsTrue, OnErr, OnOk, Ok, Err, Result, ap, inl, inr, map, refl, subst, sym, take}
+use Rattle.std.proofs.Common.{◌≡◌, ◌∙◌, ◌≤◌, ℕ, List, ◌++◌, IsTrue, OnErr, OnOk, Ok, Err, Result, ap, inl, inr, map, refl, subst, sym, take}
 use Rattle.dbpl_base.specs.Report.{report}
 use Rattle.dbpl_base.specs.declared.status.Status.{Status}
 use Rattle.dbpl_sources.proofs.Noting.{IsNotedBehind}
@@ -8,7 +8,7 @@ use Rattle.dbpl_stored_run.specs.Leaving.{OnlyRunFaults}
 use Rattle.dbpl_tool.specs.Notes.{NotedSince, OnlyCommandFaults, Reports}
 use Rattle.dbpl_world.proofs.Replays.{now-more, replay-noted}
 use Rattle.dbpl_world.specs.Counts.{OnlyNoteFaults, Rose}
-use Rattle.dbpl_world.specs.History.{Event, History, Noted, State, more, now}
+use Rattle.dbpl_world.specs.History.{History, Noted, State, more, now}
 use Rattle.dbpl_world.specs.declared.counts.Counts.{Counts}
 use Rattle.dbpl_world.specs.declared.failed.Failed.{Failed}
 
