@@ -27,13 +27,13 @@ printed statements = flat_map printed_by statements
 
 -- with the turns that they use up, statements print all that they print, and go on
 block_goes : (statements : List Statement) (others : ℕ) (events : List Event) →
-    block (map statement_meaning statements) (record { left = turns_for statements others; database = []; events = events })
-    ≡ Done (tt {0}) (record { left = others; database = []; events = events ++ outs (printed statements) })
+    block (map statement_meaning statements) (record { left = turns_for statements others; database = []; input = []; events = events })
+    ≡ Done (tt {0}) (record { left = others; database = []; input = []; events = events ++ outs (printed statements) })
 unfolding ◌>>=◌ gives turn makes
-block_goes [] others events = ap (λ (es : List Event). Done (tt {0}) (record { left = others; database = []; events = es })) (sym (append-nil events))
+block_goes [] others events = ap (λ (es : List Event). Done (tt {0}) (record { left = others; database = []; input = []; events = es })) (sym (append-nil events))
 block_goes (statement ∷ statements) others events =
     block_goes statements others (events ++ outs (printed_by statement))
-    ∙ ap (λ (es : List Event). Done (tt {0}) (record { left = others; database = []; events = es }))
+    ∙ ap (λ (es : List Event). Done (tt {0}) (record { left = others; database = []; input = []; events = es }))
     (append_assoc events (outs (printed_by statement)) (outs (printed statements))
     ∙ ap (λ (es : List Event). events ++ es) (sym (map-append Out (printed_by statement) (printed statements))))
 
@@ -74,6 +74,6 @@ steady_body program = steady_turn _ (steady_block statement_meaning program.stat
 pub steady : (program : Program) (turns others further : ℕ) → further ≡ turns + others → GoesOn (meaning program turns) (meaning program further)
 unfolding meaning
 steady program turns others further e =
-    let start : State = record { left = turns; database = []; events = [] } in
+    let start : State = record { left = turns; database = []; input = []; events = [] } in
     outcomes others (body_meaning program start) (body_meaning program (record start { left = further }))
     ((steady_body program).on others further start e)

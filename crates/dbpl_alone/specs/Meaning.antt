@@ -17,6 +17,6 @@ statement_meaning statement = turn (prints_bytes (printed_by statement))
 abbrev pub body_meaning : Program → Doing (Unit {0})
 body_meaning program = turn (block (map statement_meaning program.statements))
 
--- THE meaning: what a module comes to within so many turns. It has no database.
+-- THE meaning: what a module comes to within so many turns. It has no database, and takes no input.
 unfoldable pub meaning : Program → ℕ → Outcome
-meaning program turns = outcome_of (body_meaning program (record { left = turns; database = []; events = [] }))
+meaning program turns = outcome_of (body_meaning program (record { left = turns; database = []; input = []; events = [] }))

@@ -133,7 +133,7 @@ transact-by :
     Commits program.relation.name state result ran →
     ((database : List Bound) (events : List Event) (held : Bound) → bound_named program.relation.name database ≡ Some held →
     From events (comes_to program actions database)
-    (block (map (action_meaning program) actions) (record { left = state.left; database = database; events = events }))) →
+    (block (map (action_meaning program) actions) (record { left = state.left; database = database; input = state.input; events = events }))) →
     From state.events
     (by_transaction result (λ relation.
     after_events (Commit (with_named program.relation.name relation state.database) ∷ [])
@@ -145,6 +145,7 @@ transact-by program actions state bound (Ok relation) ran found commits rest =
     (comes_to program actions (with_named program.relation.name relation state.database))
     (block (map (action_meaning program) actions) (record {
       left = state.left;
+      input = state.input;
       database = with_named program.relation.name relation state.database;
       events = state.events ++ Commit (with_named program.relation.name relation state.database) ∷ [];
     }))
@@ -156,38 +157,38 @@ transact-by program actions state bound (Err trap) ran found commits rest =
     ∙ from-none state.events (Trapped trap)
 
 -- a run of the statements that are left
-abbrev run_of : StoredProgram → List Action → ℕ → List Bound → List Event → Ran (Unit {0})
-run_of program actions left database events =
-    block (map (action_meaning program) actions) (record { left = left; database = database; events = events })
+abbrev run_of : StoredProgram → List Action → ℕ → List Bound → List ℕ → List Event → Ran (Unit {0})
+run_of program actions left database input events =
+    block (map (action_meaning program) actions) (record { left = left; database = database; input = input; events = events })
 
 body_goes :
-    (program : StoredProgram) (actions : List Action) (left : ℕ) (database : List Bound) (events : List Event)
+    (program : StoredProgram) (actions : List Action) (left : ℕ) (database : List Bound) (input : List ℕ) (events : List Event)
     (bound : Bound) → bound_named program.relation.name database ≡ Some bound → left ≡ length actions →
     From events (comes_to program actions database)
-    (block (map (action_meaning program) actions) (record { left = left; database = database; events = events }))
+    (block (map (action_meaning program) actions) (record { left = left; database = database; input = input; events = events }))
 unfolding ◌>>=◌ gives turn makes
-body_goes program [] left database events bound found e = from-none events Ended
-body_goes program (action ∷ actions) zero database events bound found e = absurd (omega (arith, e))
-body_goes program (WriteLn ∷ actions) (suc left) database events bound found e =
+body_goes program [] left database input events bound found e = from-none events Ended
+body_goes program (action ∷ actions) zero database input events bound found e = absurd (omega (arith, e))
+body_goes program (WriteLn ∷ actions) (suc left) database input events bound found e =
     from-more events (Out 10 ∷ []) (comes_to program actions database)
-    (run_of program actions left database (events ++ Out 10 ∷ []))
-    (body_goes program actions left database (events ++ Out 10 ∷ []) bound found (omega (arith, e)))
-body_goes program (WriteString text ∷ actions) (suc left) database events bound found e =
+    (run_of program actions left database input (events ++ Out 10 ∷ []))
+    (body_goes program actions left database input (events ++ Out 10 ∷ []) bound found (omega (arith, e)))
+body_goes program (WriteString text ∷ actions) (suc left) database input events bound found e =
     let made = map Out (before_zero text) in
-    from-more events made (comes_to program actions database) (run_of program actions left database (events ++ made))
-    (body_goes program actions left database (events ++ made) bound found (omega (arith, e)))
-body_goes program (Transact ∷ actions) (suc left) database events bound found e =
-    let state : State = record { left = left; database = database; events = events } in
+    from-more events made (comes_to program actions database) (run_of program actions left database input (events ++ made))
+    (body_goes program actions left database input (events ++ made) bound found (omega (arith, e)))
+body_goes program (Transact ∷ actions) (suc left) database input events bound found e =
+    let state : State = record { left = left; database = database; input = input; events = events } in
     transact-by program actions state bound (transacted_by program database) (transaction_meaning program state) found
     (subst (λ relation. Commits program.relation.name state (inserted_all program.relation.kind program.insertions relation) (transaction_meaning program state))
     (sym (relation_named-is program.relation.name database bound found))
     (transaction-commits program state bound found))
-    (λ later made held there. body_goes program actions left later made held there (omega (arith, e)))
+    (λ later made held there. body_goes program actions left later input made held there (omega (arith, e)))
 
 -- THE whole of a program, statement by statement
 pub whole-comes_to :
-    (program : StoredProgram) (database : List Bound) (bound : Bound) →
-    bound_named program.relation.name database ≡ Some bound → whole program database ≡ comes_to program program.body database
+    (program : StoredProgram) (database : List Bound) (input : List ℕ) (bound : Bound) →
+    bound_named program.relation.name database ≡ Some bound → whole program database input ≡ comes_to program program.body database
 unfolding meaning turn
-whole-comes_to program database bound found =
-    body_goes program program.body (length program.body) database [] bound found refl
+whole-comes_to program database input bound found =
+    body_goes program program.body (length program.body) database input [] bound found refl

@@ -196,10 +196,10 @@ outcomes others (Stops (Trapped trap) state) further follows =
     rw follows.2 (record { extends = none-from state.events; stays = λ h. refl })
 
 pub steady :
-    (program : StoredProgram) (database : List Bound) (turns others further : ℕ) → further ≡ turns + others →
-    GoesOn (meaning program database turns) (meaning program database further)
+    (program : StoredProgram) (database : List Bound) (input : List ℕ) (turns others further : ℕ) → further ≡ turns + others →
+    GoesOn (meaning program database input turns) (meaning program database input further)
 unfolding meaning
-steady program database turns others further e =
-    let start : State = record { left = turns; database = database; events = [] } in
+steady program database input turns others further e =
+    let start : State = record { left = turns; database = database; input = input; events = [] } in
     outcomes others (body_meaning program start) (body_meaning program (record start { left = further }))
     ((steady_body program).on others further start e)

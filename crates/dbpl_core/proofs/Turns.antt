@@ -131,21 +131,21 @@ not_going count left (Done value state) spends e = cc
 not_going count left (Stops standing state) spends e = spends e
 
 -- with its turns a program isn't cut off
-pub comes_to_end : (program : StoredProgram) (database : List Bound) → (whole program database).stands ≡ Going → ⊥
+pub comes_to_end : (program : StoredProgram) (database : List Bound) (input : List ℕ) → (whole program database input).stands ≡ Going → ⊥
 unfolding meaning
-comes_to_end program database =
-    let start : State = record { left = turns_of program; database = database; events = [] } in
+comes_to_end program database input =
+    let start : State = record { left = turns_of program; database = database; input = input; events = [] } in
     not_going (turns_of program) (turns_of program) (body_meaning program start) ((uses_body program).by start (omega arith))
 
 -- what it has made within fewer turns is a front of the whole
 pub whole-front :
-    (program : StoredProgram) (database : List Bound) (turns : ℕ) →
-    GoesFrom (meaning program database turns).events (whole program database).events
-whole-front program database turns =
+    (program : StoredProgram) (database : List Bound) (input : List ℕ) (turns : ℕ) →
+    GoesFrom (meaning program database input turns).events (whole program database input).events
+whole-front program database input turns =
     let further : ℕ = turns + turns_of program in
-    let on = steady program database turns (turns_of program) further refl in
-    let back = steady program database (turns_of program) turns further (omega arith) in
+    let on = steady program database input turns (turns_of program) further refl in
+    let back = steady program database input (turns_of program) turns further (omega arith) in
     record {
       rest = on.extends.rest;
-      is = ap (λ (outcome : Outcome). outcome.events) (sym (back.stays (comes_to_end program database))) ∙ on.extends.is;
+      is = ap (λ (outcome : Outcome). outcome.events) (sym (back.stays (comes_to_end program database input))) ∙ on.extends.is;
     }

@@ -1,5 +1,5 @@
--- What a program means over a database to which its relation variable is bound: the events that it makes within a number
--- of turns. A turn is the beginning of a call: the module's body is one, and each call of the transaction or of a
+-- What a program means over a database to which its relation variable is bound, and an input: the events that it makes within
+-- a number of turns. A turn is the beginning of a call: the module's body is one, and each call of the transaction or of a
 -- procedure of InOut is one.
 use Rattle.std.specs.Prelude.{ℕ, zero, suc, ◌==◌, if◌then◌else◌, List, [], ◌∷◌, ◌++◌, map, Result, Ok, Err}
 use Rattle.std.specs.List.{before_first}
@@ -24,10 +24,11 @@ pub data Standing : Type 0 where
   Ended : Standing
   Trapped : Trap → Standing
 
--- What a run has while it goes: the turns that may still begin, the database, and the events so far.
+-- What a run has while it goes: the turns that may still begin, the database, the input that is left, and the events so far.
 pub record State : Type 0 where
   pub left : ℕ
   pub database : List Bound
+  pub input : List ℕ
   pub events : List Event
 
 -- A phrase does its work and gives a value, or stops the run.
@@ -138,7 +139,7 @@ abbrev pub outcome_of : Ran (Unit {0}) → Outcome
 outcome_of (Done value state) = record { events = state.events; stands = Ended }
 outcome_of (Stops standing state) = record { events = state.events; stands = standing }
 
--- THE meaning: what a program comes to over this database within so many turns
-unfoldable pub meaning : StoredProgram → List Bound → ℕ → Outcome
-meaning program database turns =
-    outcome_of (body_meaning program (record { left = turns; database = database; events = [] }))
+-- THE meaning: what a program comes to over this database, with this input, within so many turns. So far no statement reads.
+unfoldable pub meaning : StoredProgram → List Bound → List ℕ → ℕ → Outcome
+meaning program database input turns =
+    outcome_of (body_meaning program (record { left = turns; database = database; input = input; events = [] }))

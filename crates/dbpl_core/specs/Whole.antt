@@ -14,12 +14,12 @@ use Rattle.dbpl_value.specs.declared.value.Value.{Value}
 abbrev pub turns_of : StoredProgram → ℕ
 turns_of program = suc (length program.body)
 
-abbrev pub whole : StoredProgram → List Bound → Outcome
-whole program database = meaning program database (turns_of program)
+abbrev pub whole : StoredProgram → List Bound → List ℕ → Outcome
+whole program database input = meaning program database input (turns_of program)
 
--- THE event list of a program over this database
-abbrev pub events_of : StoredProgram → List Bound → List Event
-events_of program database = (whole program database).events
+-- THE event list of a program over this database, with this input
+abbrev pub events_of : StoredProgram → List Bound → List ℕ → List Event
+events_of program database input = (whole program database input).events
 
 -- ---- the same, statement by statement
 

@@ -21,20 +21,21 @@ pub fn events_join()
 
 /// More turns only add events, and a program that has ended or trapped stays as it is.
 pub fn meaning_is_steady()
-    ensures extends { (program : StoredProgram) (database : List Bound) (turns others : ℕ) → (rest : List Event) × ((meaning program database (turns + others)).events ≡ (meaning program database turns).events ++ rest) }
-    ensures stays { (program : StoredProgram) (database : List Bound) (turns others : ℕ) → ((meaning program database turns).stands ≡ Going → ⊥) → meaning program database (turns + others) ≡ meaning program database turns }
+    ensures extends { (program : StoredProgram) (database : List Bound) (input : List ℕ) (turns others : ℕ) → (rest : List Event) × ((meaning program database input (turns + others)).events ≡ (meaning program database input turns).events ++ rest) }
+    ensures stays { (program : StoredProgram) (database : List Bound) (input : List ℕ) (turns others : ℕ) → ((meaning program database input turns).stands ≡ Going → ⊥) → meaning program database input (turns + others) ≡ meaning program database input turns }
 {}
 
 /// A program comes to its end: within a number of turns that its text tells it has made its whole list of events.
 pub fn meaning_is_whole()
-    ensures ends { (program : StoredProgram) (database : List Bound) → (whole program database).stands ≡ Going → ⊥ }
-    ensures enough { (program : StoredProgram) (database : List Bound) (others : ℕ) → meaning program database (turns_of program + others) ≡ whole program database }
-    ensures front { (program : StoredProgram) (database : List Bound) (turns : ℕ) → (rest : List Event) × (events_of program database ≡ (meaning program database turns).events ++ rest) }
+    ensures ends { (program : StoredProgram) (database : List Bound) (input : List ℕ) → (whole program database input).stands ≡ Going → ⊥ }
+    ensures enough { (program : StoredProgram) (database : List Bound) (input : List ℕ) (others : ℕ) → meaning program database input (turns_of program + others) ≡ whole program database input }
+    ensures front { (program : StoredProgram) (database : List Bound) (input : List ℕ) (turns : ℕ) → (rest : List Event) × (events_of program database input ≡ (meaning program database input turns).events ++ rest) }
 {}
 
-/// What a program does, statement by statement, over a database to which its variable is bound.
+/// What a program does, statement by statement, over a database to which its variable is bound. The input is any, since no
+/// statement reads.
 pub fn meaning_by_statements()
-    ensures { (program : StoredProgram) (before database : List Bound) → Binds program.relation before database → whole program database ≡ comes_to program program.body database }
+    ensures { (program : StoredProgram) (before database : List Bound) (input : List ℕ) → Binds program.relation before database → whole program database input ≡ comes_to program program.body database }
 {}
 
 /// A variable found by its name is the one at its place: it has the name alone, since names rise.

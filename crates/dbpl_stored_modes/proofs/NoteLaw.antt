@@ -91,14 +91,14 @@ module _ (name : List ℕ) (work : Work) (after : History) (counts : Counts) (no
       HasRun name work stored database bound standing → HasRun name (reported work after counts) stored database bound standing
   run_noted told {stored = stored} {database = database} {bound = bound} has = record {
     stands_so = has.stands_so;
-    all = at_end told (HasAll (events_of stored bound) database (now work.before).said) has.all;
+    all = at_end told (HasAll (events_of stored bound (now work.before).input) database (now work.before).said) has.all;
   }
 
   pub stored_noted : (stored : StoredProgram) (answer : Status) → RunsStored name stored work answer → RunsStored name stored (reported work after counts) answer
   stored_noted stored answer r = record {
     answers = r.answers;
     headline = λ told database bound over.
-        moments told (IsTied (events_of stored bound) database (now work.before).said) (r.headline told database bound (over_before over));
+        moments told (IsTied (events_of stored bound (now work.before).input) database (now work.before).said) (r.headline told database bound (over_before over));
     done = λ told database bound over e. run_noted told (r.done told database bound (reads_before over) e);
     trapped = λ told database bound over trap e. run_noted told (r.trapped told database bound (reads_before over) trap e);
     complete = λ told database bound over named no_shelf no_disk no_say.

@@ -56,13 +56,13 @@ named_store name differs e = let same : false ≡ true = subst (λ (other : List
 
 pub record Ran (stored : StoredProgram) (tells : Bool) (mid new : History) (counts_mid counts_new : Counts) (result : Result (Unit {0}) StopErr) : Type 0 where
   pub headline : IsTrue tells → (database bound : List Bound) → StandsFor database (now mid) → Binds stored.relation database bound →
-      EachMoment (LeavesTied (events_of stored bound) database (now mid)) mid new
+      EachMoment (LeavesTied (events_of stored bound (now mid).input) database (now mid)) mid new
   pub made : IsTrue tells → (database bound : List Bound) → ReadsAs database (now mid) → Binds stored.relation database bound →
-      OnOk result (HasMade (events_of stored bound) database (now mid) (now new))
+      OnOk result (HasMade (events_of stored bound (now mid).input) database (now mid) (now new))
   pub made_trapped : IsTrue tells → (database bound : List Bound) → ReadsAs database (now mid) → Binds stored.relation database bound →
-      (trap : Trap) → result ≡ Err (errors.Trapped trap) → HasMade (events_of stored bound) database (now mid) (now new)
+      (trap : Trap) → result ≡ Err (errors.Trapped trap) → HasMade (events_of stored bound (now mid).input) database (now mid) (now new)
   pub complete : IsTrue tells → (database bound : List Bound) → ReadsAs database (now mid) → Binds stored.relation database bound →
-      (Rose counts_mid.disk_faults counts_new.disk_faults → ⊥) → (Rose counts_mid.say_faults counts_new.say_faults → ⊥) → IsDue (whole stored bound).stands result
+      (Rose counts_mid.disk_faults counts_new.disk_faults → ⊥) → (Rose counts_mid.say_faults counts_new.say_faults → ⊥) → IsDue (whole stored bound (now mid).input).stands result
   pub ended : OnOk result (ran.HasRun stored Ended tells mid new)
   pub trapped : (trap : Trap) → result ≡ Err (errors.Trapped trap) → ran.HasRun stored (Trapped trap) tells mid new
   pub not_store : IsTrue tells → result ≡ Err errors.NotStore → HasHead (now mid).disk.log.now → ⊥
@@ -140,6 +140,10 @@ module _ (name : List ℕ) (stored : StoredProgram) (work : Work) (mid : History
   disk : IsTrue work.tells → (now mid).disk ≡ store_of (now work.before) name
   disk told = mounted_disk name work.before mid (mount told)
 
+  -- nothing was taken
+  same_input : IsTrue work.tells → (now mid).input ≡ (now work.before).input
+  same_input told = ap (λ (t : State). t.input) (mounted_state name work.before mid (mount told))
+
   stands_here : IsTrue work.tells → (database : List Bound) → StandsThere name (now work.before) database → StandsFor database (now mid)
   stands_here told database there log pages log_left pages_left =
       there log pages (subst (λ (d : Store). IsImage d.log log) (disk told) log_left) (subst (λ (d : Store). IsImage d.pages pages) (disk told) pages_left)
@@ -177,12 +181,13 @@ module _ (name : List ℕ) (stored : StoredProgram) (work : Work) (mid : History
   }
 
   headline : IsTrue work.tells → (database bound : List Bound) → RunsOver name work stored database bound →
-      EachMoment (LeavesOnlyAt name (IsTied (events_of stored bound) database (now work.before).said)) work.before work.after
+      EachMoment (LeavesOnlyAt name (IsTied (events_of stored bound (now work.before).input) database (now work.before).said)) work.before work.after
   headline told database bound over =
-      mounted_then name work.before mid (mount told) (IsTied (events_of stored bound) database (now work.before).said) work.after
-      (tied_first (events_of stored bound) database over.stands_for)
-      (moments_weaken (LeavesTied (events_of stored bound) database (now mid)) _ mid work.after (tied_here told (events_of stored bound) database)
-      (run.headline told database bound (stands_here told database over.stands_for) over.binds))
+      mounted_then name work.before mid (mount told) (IsTied (events_of stored bound (now work.before).input) database (now work.before).said) work.after
+      (tied_first (events_of stored bound (now work.before).input) database over.stands_for)
+      (moments_weaken (LeavesTied (events_of stored bound (now work.before).input) database (now mid)) _ mid work.after (tied_here told (events_of stored bound (now work.before).input) database)
+      (subst (λ (input : List ℕ). EachMoment (LeavesTied (events_of stored bound input) database (now mid)) mid work.after) (same_input told)
+      (run.headline told database bound (stands_here told database over.stands_for) over.binds)))
 
   all_there : IsTrue work.tells → (events : List Event) (database : List Bound) → HasMade events database (now mid) (now work.after) →
       LeavesOnlyAt name (HasAll events database (now work.before).said) (now work.after)
@@ -194,11 +199,12 @@ module _ (name : List ℕ) (stored : StoredProgram) (work : Work) (mid : History
 
   -- how the meaning over the store's database stands
   stands_so : IsTrue work.tells → (database bound : List Bound) → ReadsOver name work stored database bound → (standing : Standing) →
-      ran.HasRun stored standing work.tells mid work.after → (whole stored bound).stands ≡ standing
+      ran.HasRun stored standing work.tells mid work.after → (whole stored bound (now work.before).input).stands ≡ standing
   stands_so told database bound over standing has =
       let same = one_read told has.database database (has.stood told) (reads_here told database over.reads) in
       let binds = subst (λ (d : List Bound). Binds stored.relation d has.bound) same has.binds in
-      ap (λ (b : List Bound). (whole stored b).stands) (one_binding stored.relation database bound has.bound over.binds binds) ∙ has.ends
+      ap (λ (b : List Bound). (whole stored b (now work.before).input).stands) (one_binding stored.relation database bound has.bound over.binds binds)
+      ∙ ap (λ (input : List ℕ). (whole stored has.bound input).stands) (sym (same_input told)) ∙ has.ends
 
   done : IsTrue work.tells → (database bound : List Bound) → ReadsOver name work stored database bound → answer ≡ status.Done →
       HasRun name work stored database bound Ended
@@ -206,8 +212,9 @@ module _ (name : List ℕ) (stored : StoredProgram) (work : Work) (mid : History
       let ok = come_as status.Done e in
       record {
         stands_so = stands_so told database bound over Ended (on_ok result ok run.ended);
-        all = all_there told (events_of stored bound) database
-            (on_ok result ok (run.made told database bound (reads_here told database over.reads) over.binds));
+        all = all_there told (events_of stored bound (now work.before).input) database
+            (subst (λ (input : List ℕ). HasMade (events_of stored bound input) database (now mid) (now work.after)) (same_input told)
+            (on_ok result ok (run.made told database bound (reads_here told database over.reads) over.binds)));
       }
 
   trapped : IsTrue work.tells → (database bound : List Bound) → ReadsOver name work stored database bound → (trap : Trap) →
@@ -216,8 +223,9 @@ module _ (name : List ℕ) (stored : StoredProgram) (work : Work) (mid : History
       let err = come_as (status.Trapped trap.kind trap.place) e in
       record {
         stands_so = stands_so told database bound over (Trapped trap) (run.trapped trap err);
-        all = all_there told (events_of stored bound) database
-            (run.made_trapped told database bound (reads_here told database over.reads) over.binds trap err);
+        all = all_there told (events_of stored bound (now work.before).input) database
+            (subst (λ (input : List ℕ). HasMade (events_of stored bound input) database (now mid) (now work.after)) (same_input told)
+            (run.made_trapped told database bound (reads_here told database over.reads) over.binds trap err));
       }
 
   due : (standing : Standing) → IsDue standing result → IsDueAnswer standing answer ⊎ (answer ≡ status.Memory)
@@ -229,10 +237,12 @@ module _ (name : List ℕ) (stored : StoredProgram) (work : Work) (mid : History
 
   complete : IsTrue work.tells → (database bound : List Bound) → ReadsOver name work stored database bound →
       (Rose work.counts_before.disk_faults work.counts_after.disk_faults → ⊥) → (Rose work.counts_before.say_faults work.counts_after.say_faults → ⊥) →
-      IsDueAnswer (whole stored bound).stands answer ⊎ (answer ≡ status.Memory)
+      IsDueAnswer (whole stored bound (now work.before).input).stands answer ⊎ (answer ≡ status.Memory)
   complete told database bound over no_disk no_say =
-      due (whole stored bound).stands (run.complete told database bound (reads_here told database over.reads) over.binds
-      (λ rose. no_disk (rose_later _ _ _ disk_later rose)) (λ rose. no_say (subst (λ (n : ℕ). Rose n work.counts_after.say_faults) say_same rose)))
+      due (whole stored bound (now work.before).input).stands
+      (subst (λ (input : List ℕ). IsDue (whole stored bound input).stands result) (same_input told)
+      (run.complete told database bound (reads_here told database over.reads) over.binds
+      (λ rose. no_disk (rose_later _ _ _ disk_later rose)) (λ rose. no_say (subst (λ (n : ℕ). Rose n work.counts_after.say_faults) say_same rose))))
 
   not_store_only : IsTrue work.tells → answer ≡ status.NotStore → HasNone name work
   not_store_only told e =
@@ -414,16 +424,16 @@ module _ (name : List ℕ) (stored : StoredProgram) (work : Work) (answer : Stat
   still_runs why = record {
     answers = still_answer name work answer why;
     headline = λ told database bound over.
-        one_moment (LeavesOnlyAt name (IsTied (events_of stored bound) database (now work.before).said)) told (λ log pages log_left pages_left. record {
+        one_moment (LeavesOnlyAt name (IsTied (events_of stored bound (now work.before).input) database (now work.before).said)) told (λ log pages log_left pages_left. record {
           made = [];
-          rest = events_of stored bound;
+          rest = events_of stored bound (now work.before).input;
           prefix = refl;
           printed = sym (append-nil (now work.before).said);
           stored = over.stands_for log pages log_left pages_left;
         });
     done = λ told database bound over e. absurd (still_as why status.Done e);
     trapped = λ told database bound over trap e. absurd (still_as why (status.Trapped trap.kind trap.place) e);
-    complete = λ told database bound over named no_shelf no_disk no_say. still_complete name work answer (whole stored bound).stands why named no_shelf no_disk;
+    complete = λ told database bound over named no_shelf no_disk no_say. still_complete name work answer (whole stored bound (now work.before).input).stands why named no_shelf no_disk;
     not_store_only = λ told e. inl (still_as why status.NotStore e);
     not_store = λ told none. still_not_store name work answer why;
     damaged_only = λ told page e. absurd (still_as why (status.Damaged page) e);

@@ -60,8 +60,8 @@ pub record HasAll (events : List Event) (database : List Bound) (before log page
 
 -- The program made all its events, and its meaning stands so at its end.
 pub record HasRun (store : List ℕ) (work : Work) (stored : StoredProgram) (database bound : List Bound) (standing : Standing) : Type 0 where
-  pub stands_so : (whole stored bound).stands ≡ standing
-  pub all : LeavesOnlyAt store (HasAll (events_of stored bound) database (now work.before).said) (now work.after)
+  pub stands_so : (whole stored bound (now work.before).input).stands ≡ standing
+  pub all : LeavesOnlyAt store (HasAll (events_of stored bound (now work.before).input) database (now work.before).said) (now work.after)
 
 -- the answer that is due where the meaning stands so at its end
 abbrev pub IsDueAnswer : Standing → Status → Type 0
@@ -111,7 +111,7 @@ pub record RunsStored (store : List ℕ) (stored : StoredProgram) (work : Work) 
   -- THE HEADLINE: at every moment some prefix of the program's events has as its prints the bytes said, and as its last
   -- commit what a stop then leaves.
   pub headline : IsTrue work.tells → (database bound : List Bound) → RunsOver store work stored database bound →
-      EachMoment (LeavesOnlyAt store (IsTied (events_of stored bound) database (now work.before).said)) work.before work.after
+      EachMoment (LeavesOnlyAt store (IsTied (events_of stored bound (now work.before).input) database (now work.before).said)) work.before work.after
   -- A run that ends or traps has made them all, and the meaning ends or traps so.
   pub done : IsTrue work.tells → (database bound : List Bound) → ReadsOver store work stored database bound →
       answer ≡ status.Done → HasRun store work stored database bound Ended
@@ -120,7 +120,7 @@ pub record RunsStored (store : List ℕ) (stored : StoredProgram) (work : Work) 
   -- Where no fault comes it does so, but for want of memory.
   pub complete : IsTrue work.tells → (database bound : List Bound) → ReadsOver store work stored database bound → store ≢ no_store →
       (Rose work.shelf_faults_before work.shelf_faults_after → ⊥) → (Rose work.counts_before.disk_faults work.counts_after.disk_faults → ⊥) →
-      (Rose work.counts_before.say_faults work.counts_after.say_faults → ⊥) → IsDueAnswer (whole stored bound).stands answer ⊎ (answer ≡ status.Memory)
+      (Rose work.counts_before.say_faults work.counts_after.say_faults → ⊥) → IsDueAnswer (whole stored bound (now work.before).input).stands answer ⊎ (answer ≡ status.Memory)
   -- Each refusal comes exactly where it belongs, but for faults and want of memory, and nothing was said or stored.
   pub not_store_only : IsTrue work.tells → answer ≡ status.NotStore → HasNone store work
   pub not_store : IsTrue work.tells → HasNone store work → IsUnlessUnopened answer status.NotStore

@@ -75,12 +75,12 @@ module _ (program : StoredProgram) (tells : Bool) (store : Store) (h0 h1 : Histo
       binds
 
   -- its whole is what its statements come to
-  whole-is : whole program (database_in store) ≡ comes_to program program.body (database_in store)
+  whole-is : whole program (database_in store) (now h0).input ≡ comes_to program program.body (database_in store)
   whole-is =
       let there = bound-is_there program.relation (committed_of store) (database_in store) begins.binds in
-      whole-comes_to program (database_in store) there.0 there.1
+      whole-comes_to program (database_in store) (now h0).input there.0 there.1
 
-  events-are : events_by program program.body (database_in store) ≡ events_of program (database_in store)
+  events-are : events_by program program.body (database_in store) ≡ events_of program (database_in store) (now h0).input
   events-are = ap (λ (outcome : Outcome). outcome.events) (sym whole-is)
 
   -- ---- its statements
@@ -91,23 +91,23 @@ module _ (program : StoredProgram) (tells : Bool) (store : Store) (h0 h1 : Histo
         Binds program.relation database bound →
         (IsTrue tells → IsOpen (now h1) store →
         EachMoment (LeavesTied (events_by program program.body (database_in store)) (committed_of store) (now h1)) h1 h2) →
-        EachMoment (LeavesTied (events_of program bound) database (now h0)) h0 h2
+        EachMoment (LeavesTied (events_of program bound (now h0).input) database (now h0)) h0 h2
     begun-moments told database bound reads stood binds moments =
         let before = begins.moments told in
-        moments-behind [] (events_of program bound) database h0 h1 h2 (moments-unbegun [] database h0 h1 stood before)
+        moments-behind [] (events_of program bound (now h0).input) database h0 h1 h2 (moments-unbegun [] database h0 h1 stood before)
         (unsaid h0 h1 before)
-        (subst (λ (d : List Bound). EachMoment (LeavesTied (events_of program bound) d (now h1)) h1 h2) (committed-is told database reads)
+        (subst (λ (d : List Bound). EachMoment (LeavesTied (events_of program bound (now h0).input) d (now h1)) h1 h2) (committed-is told database reads)
         (subst (λ (events : List Event). EachMoment (LeavesTied events (committed_of store) (now h1)) h1 h2)
-        (events-are ∙ ap (events_of program) (bound-is told database bound reads binds)) (moments told (begins.opened told))))
+        (events-are ∙ ap (λ (b : List Bound). events_of program b (now h0).input) (bound-is told database bound reads binds)) (moments told (begins.opened told))))
 
     -- all its events, from the entry on
     made-all :
         (told : IsTrue tells) →
         (IsTrue tells → IsOpen (now h1) store →
         HasMade (events_by program program.body (database_in store)) (committed_of store) (now h1) (now h2)) →
-        HasMade (events_of program (database_in store)) (committed_of store) (now h0) (now h2)
+        HasMade (events_of program (database_in store) (now h0).input) (committed_of store) (now h0) (now h2)
     made-all told made =
-        made-behind [] (events_of program (database_in store)) (committed_of store) (now h0) (now h1) (now h2)
+        made-behind [] (events_of program (database_in store) (now h0).input) (committed_of store) (now h0) (now h1) (now h2)
         (unsaid h0 h1 (begins.moments told))
         (subst (λ (events : List Event). HasMade events (committed_of store) (now h1) (now h2)) events-are
         (made told (begins.opened told)))
@@ -116,18 +116,18 @@ module _ (program : StoredProgram) (tells : Bool) (store : Store) (h0 h1 : Histo
         (told : IsTrue tells) (database bound : List Bound) → ReadsAs database (now h0) → Binds program.relation database bound →
         (IsTrue tells → IsOpen (now h1) store →
         HasMade (events_by program program.body (database_in store)) (committed_of store) (now h1) (now h2)) →
-        HasMade (events_of program bound) database (now h0) (now h2)
+        HasMade (events_of program bound (now h0).input) database (now h0) (now h2)
     begun-made told database bound reads binds made =
-        subst (λ (d : List Bound). HasMade (events_of program bound) d (now h0) (now h2)) (committed-is told database reads)
-        (subst (λ (b : List Bound). HasMade (events_of program b) (committed_of store) (now h0) (now h2))
+        subst (λ (d : List Bound). HasMade (events_of program bound (now h0).input) d (now h0) (now h2)) (committed-is told database reads)
+        (subst (λ (b : List Bound). HasMade (events_of program b (now h0).input) (committed_of store) (now h0) (now h2))
         (bound-is told database bound reads binds) (made-all told made))
 
     pub begun-stands :
         (told : IsTrue tells) (database bound : List Bound) → ReadsAs database (now h0) → Binds program.relation database bound →
         (standing : Standing) → standing_by program program.body (database_in store) ≡ standing →
-        (whole program bound).stands ≡ standing
+        (whole program bound (now h0).input).stands ≡ standing
     begun-stands told database bound reads binds standing stands =
-        ap (λ (b : List Bound). (whole program b).stands) (sym (bound-is told database bound reads binds))
+        ap (λ (b : List Bound). (whole program b (now h0).input).stands) (sym (bound-is told database bound reads binds))
         ∙ ap (λ (outcome : Outcome). outcome.stands) whole-is ∙ stands
 
     pub begun-run :

@@ -23,8 +23,8 @@ pub record HasRun (program : StoredProgram) (standing : Standing) (tells : Bool)
   pub bound : List Bound
   pub stood : IsTrue tells → ReadsAs database (now old)
   pub binds : Binds program.relation database bound
-  pub ends : (whole program bound).stands ≡ standing
-  pub made : IsTrue tells → HasMade (events_of program bound) database (now old) (now new)
+  pub ends : (whole program bound (now old).input).stands ≡ standing
+  pub made : IsTrue tells → HasMade (events_of program bound (now old).input) database (now old) (now new)
 
 -- The database of the store has the relation variable with another type. Where the world tells, the store stood for it.
 pub record HasOther (field : Field) (tells : Bool) (old : History) : Type 0 where

@@ -36,14 +36,14 @@ pub fn run_stored<W: World>(
     // THE HEADLINE: at every moment some prefix of the program's events has as its prints the bytes said, and as its last
     // commit what a stop then leaves. A run that ends or traps has made them all.
     ensures headline { IsTrue W.tells → (database bound : List Bound) → StandsFor database (now (W.history world.old)) → Binds program.now.relation database bound →
-        EachMoment (LeavesTied (events_of program.now bound) database (now (W.history world.old))) (W.history world.old) (W.history world.new) }
+        EachMoment (LeavesTied (events_of program.now bound (now (W.history world.old)).input) database (now (W.history world.old))) (W.history world.old) (W.history world.new) }
     ensures whole { IsTrue W.tells → (database bound : List Bound) → ReadsAs database (now (W.history world.old)) → Binds program.now.relation database bound →
-        OnOk result (HasMade (events_of program.now bound) database (now (W.history world.old)) (now (W.history world.new))) }
+        OnOk result (HasMade (events_of program.now bound (now (W.history world.old)).input) database (now (W.history world.old)) (now (W.history world.new))) }
     ensures whole_trapped { IsTrue W.tells → (database bound : List Bound) → ReadsAs database (now (W.history world.old)) → Binds program.now.relation database bound →
-        (trap : AnyTrap) → result ≡ Err (errors.Trapped trap) → HasMade (events_of program.now bound) database (now (W.history world.old)) (now (W.history world.new)) }
+        (trap : AnyTrap) → result ≡ Err (errors.Trapped trap) → HasMade (events_of program.now bound (now (W.history world.old)).input) database (now (W.history world.old)) (now (W.history world.new)) }
     ensures complete { IsTrue W.tells → (database bound : List Bound) → ReadsAs database (now (W.history world.old)) → Binds program.now.relation database bound →
         (Rose (W.counts world.old).disk_faults (W.counts world.new).disk_faults → ⊥) → (Rose (W.counts world.old).say_faults (W.counts world.new).say_faults → ⊥) →
-        IsDue (whole program.now bound).stands result }
+        IsDue (whole program.now bound (now (W.history world.old)).input).stands result }
 
     // When each answer comes.
     ensures ended { OnOk result (HasRun program.now Ended W.tells (W.history world.old) (W.history world.new)) }

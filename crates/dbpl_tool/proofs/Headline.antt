@@ -22,9 +22,9 @@ module _ (store schema program : List ℕ) (work : Work) (answer : Status) (runs
 
   pub tied_each : IsTrue work.tells → IsProgramOf work.files schema program stored → StandsThere store (now work.before) database →
       Binds stored.relation database bound → (log pages said : List ℕ) → Might work.after store (clock work.before) log pages said →
-      IsTied (events_of stored bound) database (now work.before).said log pages said
+      IsTied (events_of stored bound (now work.before).input) database (now work.before).said log pages said
   tied_each tells of stands binds log pages said might =
-      might_each (IsTied (events_of stored bound) database (now work.before).said) store work.before work.after
+      might_each (IsTied (events_of stored bound (now work.before).input) database (now work.before).said) store work.before work.after
       ((runs.runs stored of).headline tells database bound (over stands binds)) log pages said might
 
   -- what is left at the end is left from then on
@@ -38,10 +38,10 @@ module _ (store schema program : List ℕ) (work : Work) (answer : Status) (runs
 
   pub all_at_end : IsTrue work.tells → IsProgramOf work.files schema program stored → ReadsThere store (now work.before) database →
       Binds stored.relation database bound → IsWhole answer → (log pages said : List ℕ) → Might work.after store (clock work.after) log pages said →
-      HasAll (events_of stored bound) database (now work.before).said log pages said
+      HasAll (events_of stored bound (now work.before).input) database (now work.before).said log pages said
   all_at_end tells of reads binds (inl done) log pages said might =
-      at_end (HasAll (events_of stored bound) database (now work.before).said)
+      at_end (HasAll (events_of stored bound (now work.before).input) database (now work.before).said)
       ((runs.runs stored of).done tells database bound (reads_over reads binds) done).all log pages said might
   all_at_end tells of reads binds (inr trap) log pages said might =
-      at_end (HasAll (events_of stored bound) database (now work.before).said)
+      at_end (HasAll (events_of stored bound (now work.before).input) database (now work.before).said)
       ((runs.runs stored of).trapped tells database bound (reads_over reads binds) trap.0 trap.1).all log pages said might

@@ -45,11 +45,11 @@ pub fn dbpl<W: World, S: Shelf, L: Ledger>(
     ensures headline { IsTrue W.tells → (store schema program : List ℕ) (stored : StoredProgram) (database bound : List Bound) → AsksToRun words.now store schema program →
         IsProgramOf (S.files shelf.old) schema program stored → StandsThere store (now (W.history world.old)) database → Binds stored.relation database bound →
         (log pages said : List ℕ) → Might (W.history world.new) store (clock (W.history world.old)) log pages said →
-        IsTied (events_of stored bound) database (now (W.history world.old)).said log pages said }
+        IsTied (events_of stored bound (now (W.history world.old)).input) database (now (W.history world.old)).said log pages said }
     ensures whole { IsTrue W.tells → (store schema program : List ℕ) (stored : StoredProgram) (database bound : List Bound) → AsksToRun words.now store schema program →
         IsProgramOf (S.files shelf.old) schema program stored → ReadsThere store (now (W.history world.old)) database → Binds stored.relation database bound →
         IsWhole result → (log pages said : List ℕ) → Might (W.history world.new) store (clock (W.history world.new)) log pages said →
-        HasAll (events_of stored bound) database (now (W.history world.old)).said log pages said }
+        HasAll (events_of stored bound (now (W.history world.old)).input) database (now (W.history world.old)).said log pages said }
     // Without a store the same is said of the bytes alone.
     ensures headline_alone { IsTrue W.tells → (file text : List ℕ) (program : Program) → AsksAlone words.now file → IsSomeAnd (S.files shelf.old) (λ files. file_of files file ≡ Some text) →
         IsModule text program → EachMoment (SaidSince (now (W.history world.old)).said (PrintsPrefix program)) (W.history world.old) (W.history world.new) }

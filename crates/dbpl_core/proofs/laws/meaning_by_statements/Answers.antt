@@ -4,6 +4,6 @@ use Rattle.dbpl_core.proofs.Statements.{whole-comes_to}
 use Rattle.dbpl_core.proofs.laws.meaning_by_statements.Goals as goal
 
 pub returns : goal.returns
-returns c = λ program before database binds.
+returns c = λ program before database input binds.
     let there = bound-is_there program.relation before database binds in
-    whole-comes_to program database there.0 there.1
+    whole-comes_to program database input there.0 there.1

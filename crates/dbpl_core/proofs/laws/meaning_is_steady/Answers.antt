@@ -4,9 +4,9 @@ use Rattle.dbpl_core.proofs.Steady.{steady}
 use Rattle.dbpl_core.proofs.laws.meaning_is_steady.Goals as goal
 
 pub returns-clause-extends : goal.returns-clause-extends
-returns-clause-extends c = λ program database turns others.
-    let on = steady program database turns others (turns + others) refl in (on.extends.rest, on.extends.is)
+returns-clause-extends c = λ program database input turns others.
+    let on = steady program database input turns others (turns + others) refl in (on.extends.rest, on.extends.is)
 
 pub returns-clause-stays : goal.returns-clause-stays
-returns-clause-stays c = λ program database turns others ended.
-    (steady program database turns others (turns + others) refl).stays ended
+returns-clause-stays c = λ program database input turns others ended.
+    (steady program database input turns others (turns + others) refl).stays ended

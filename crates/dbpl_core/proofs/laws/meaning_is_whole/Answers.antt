@@ -9,9 +9,9 @@ pub returns-clause-ends : goal.returns-clause-ends
 returns-clause-ends c = comes_to_end
 
 pub returns-clause-enough : goal.returns-clause-enough
-returns-clause-enough c = λ program database others.
-    (steady program database (turns_of program) others (turns_of program + others) refl).stays (comes_to_end program database)
+returns-clause-enough c = λ program database input others.
+    (steady program database input (turns_of program) others (turns_of program + others) refl).stays (comes_to_end program database input)
 
 pub returns-clause-front : goal.returns-clause-front
-returns-clause-front c = λ program database turns.
-    let front = whole-front program database turns in (front.rest, front.is)
+returns-clause-front c = λ program database input turns.
+    let front = whole-front program database input turns in (front.rest, front.is)

@@ -22,7 +22,7 @@ bind-requires g c = record { kept = small-kept c.args.program.now c.requires.sma
 pub returns-in_err-store-clause-headline : goal.returns-in_err-store-clause-headline
 returns-in_err-store-clause-headline g c =
     λ told database bound stood binds.
-    moments-unbegun (events_of c.args.program.now bound) database (g.W.World.history c.args.world.now) (g.W.World.history c.open.new.world) stood (c.open.ensures.moments told)
+    moments-unbegun (events_of c.args.program.now bound (now (g.W.World.history c.args.world.now)).input) database (g.W.World.history c.args.world.now) (g.W.World.history c.open.new.world) stood (c.open.ensures.moments told)
 
 pub returns-in_err-store-clause-whole : goal.returns-in_err-store-clause-whole
 returns-in_err-store-clause-whole g c =
@@ -38,7 +38,7 @@ pub returns-in_err-store-clause-complete : goal.returns-in_err-store-clause-comp
 returns-in_err-store-clause-complete g c =
     let is = handed c.from_residual.result _ c.from_residual.ensures.1 in
     λ told database bound reads binds no_disk no_say.
-    due-unopened c.args.program.now bound c.from_residual.result _ is
+    due-unopened c.args.program.now bound (now (g.W.World.history c.args.world.now)).input c.from_residual.result _ is
     (λ e. c.open.ensures.not_store told (c.in_err-store.was ∙ ap (λ w. Err w) e) (reads-head database (now (g.W.World.history c.args.world.now)) reads))
     (λ page e. reads-sound database (now (g.W.World.history c.args.world.now)) reads (c.open.ensures.damaged told page (c.in_err-store.was ∙ ap (λ w. Err w) e)).2)
     (λ e. no_disk (c.open.ensures.cause (c.in_err-store.was ∙ ap (λ w. Err w) e)))
@@ -119,7 +119,7 @@ returns-in_err-store-clause-counts g c =
 pub returns-in_err-is_bound-clause-headline : goal.returns-in_err-is_bound-clause-headline
 returns-in_err-is_bound-clause-headline g c =
     λ told database bound stood binds.
-    moments-unbegun (events_of c.args.program.now bound) database (g.W.World.history c.args.world.now) (g.W.World.history c.open.new.world) stood (c.open.ensures.moments told)
+    moments-unbegun (events_of c.args.program.now bound (now (g.W.World.history c.args.world.now)).input) database (g.W.World.history c.args.world.now) (g.W.World.history c.open.new.world) stood (c.open.ensures.moments told)
 
 pub returns-in_err-is_bound-clause-whole : goal.returns-in_err-is_bound-clause-whole
 returns-in_err-is_bound-clause-whole g c =
@@ -134,7 +134,7 @@ returns-in_err-is_bound-clause-whole_trapped g c =
 pub returns-in_err-is_bound-clause-complete : goal.returns-in_err-is_bound-clause-complete
 returns-in_err-is_bound-clause-complete g c =
     let is = handed c.from_residual-in_err-is_bound.result _ c.from_residual-in_err-is_bound.ensures.1 in
-    λ told database bound reads binds no_disk no_say. due-wanting c.args.program.now bound c.from_residual-in_err-is_bound.result is
+    λ told database bound reads binds no_disk no_say. due-wanting c.args.program.now bound (now (g.W.World.history c.args.world.now)).input c.from_residual-in_err-is_bound.result is
 
 pub returns-in_err-is_bound-clause-ended : goal.returns-in_err-is_bound-clause-ended
 returns-in_err-is_bound-clause-ended g c =
@@ -205,7 +205,7 @@ returns-in_err-is_bound-clause-counts g c =
 pub returns-then-not-is_bound-clause-headline : goal.returns-then-not-is_bound-clause-headline
 returns-then-not-is_bound-clause-headline g c =
     λ told database bound stood binds.
-    moments-unbegun (events_of c.args.program.now bound) database (g.W.World.history c.args.world.now) (g.W.World.history c.open.new.world) stood (c.open.ensures.moments told)
+    moments-unbegun (events_of c.args.program.now bound (now (g.W.World.history c.args.world.now)).input) database (g.W.World.history c.args.world.now) (g.W.World.history c.open.new.world) stood (c.open.ensures.moments told)
 
 pub returns-then-not-is_bound-clause-complete : goal.returns-then-not-is_bound-clause-complete
 returns-then-not-is_bound-clause-complete g c =
@@ -294,7 +294,7 @@ returns-in_err-run_body-clause-complete g c =
     let is = handed c.from_residual-in_err-run_body.result _ c.from_residual-in_err-run_body.ensures.1 in
     let before = disk-counts _ _ c.open.ensures.counts in
     λ told database bound reads binds no_disk no_say.
-    due-stopped c.args.program.now bound c.from_residual-in_err-run_body.result _ is
+    due-stopped c.args.program.now bound (now (g.W.World.history c.args.world.now)).input c.from_residual-in_err-run_body.result _ is
     (λ trap why. begun-stands c.args.program.now g.W.World.tells c.bind.new.self (g.W.World.history c.args.world.now) (g.W.World.history c.open.new.world) begins (g.W.World.history c.run_body.new.world) told database bound reads binds (Trapped trap) (c.run_body.ensures.trapped trap (c.in_err-run_body.was ∙ ap (λ w. Err w) why)))
     (λ why. no_disk (rose_since _ _ _ before.disk_later (c.run_body.ensures.disk_fault (c.in_err-run_body.was ∙ ap (λ w. Err w) why))))
     (λ why. no_say (rose_since _ _ _ before.say_later (c.run_body.ensures.out_fault (c.in_err-run_body.was ∙ ap (λ w. Err w) why))))
@@ -449,7 +449,7 @@ returns-clause-complete g c =
     c.open.ensures.moments
     in
     λ told database bound reads binds no_disk no_say.
-    due-ended c.args.program.now bound _ (begun-stands c.args.program.now g.W.World.tells c.bind.new.self (g.W.World.history c.args.world.now) (g.W.World.history c.open.new.world) begins (g.W.World.history c.run_body.new.world) told database bound reads binds Ended c.in_ok-run_body.ensures.ended)
+    due-ended c.args.program.now bound (now (g.W.World.history c.args.world.now)).input _ (begun-stands c.args.program.now g.W.World.tells c.bind.new.self (g.W.World.history c.args.world.now) (g.W.World.history c.open.new.world) begins (g.W.World.history c.run_body.new.world) told database bound reads binds Ended c.in_ok-run_body.ensures.ended)
 
 pub returns-clause-ended : goal.returns-clause-ended
 returns-clause-ended g c =
