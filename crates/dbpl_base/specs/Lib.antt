@@ -1,3 +1,4 @@
+pub mod Order
 pub mod Places
 pub mod Report
 pub mod Scans

@@ -9,9 +9,6 @@ use Rattle.dbpl_base.specs.declared.lexeme.Lexeme.TheVariants.{Finish}
 use Rattle.dbpl_base.specs.declared.place.Place.{Place}
 use Rattle.dbpl_base.specs.declared.token.Token.{Token}
 
-abbrev pub AreBlanks : List ℕ → Type 0
-AreBlanks gap = IsTrue (list_all is_blank gap)
-
 -- the text begins with the two bytes that open a comment
 abbrev pub OpensComment : List ℕ → Type 0
 OpensComment text = (rest : List ℕ) × (text ≡ codes "(*" ++ rest)
@@ -38,10 +35,6 @@ ScansFrom IsGap place text (token ∷ []) =
 ScansFrom IsGap place text (token ∷ next ∷ tokens) =
     (gap word rest : List ℕ) × BeginsWith IsGap place text gap word rest token
     × ScansFrom IsGap (place_after place (gap ++ word)) rest (next ∷ tokens)
-
--- the text of this unit has these tokens, and blanks alone stand between them
-abbrev pub ScansByBlanks : ℕ → List ℕ → List Token → Type 0
-ScansByBlanks unit text tokens = ScansFrom AreBlanks (start_of unit) text tokens
 
 abbrev pub lexemes_of : List Token → List Lexeme
 lexemes_of tokens = map (λ token. token.lexeme) tokens

@@ -1,6 +1,7 @@
 -- Which bytes spell which lexeme.
-use Rattle.std.specs.Prelude.{◌≡◌, ◌≢◌, ℕ, ◌+◌, ◌*◌, ◌-◌, ◌^◌, ◌==◌, ◌⊎◌, min, fold, Bool, not, ◌&&◌, List, [], ◌∷◌, ◌++◌, IsTrue, Some, nat_lt, slice_get, if◌then◌else◌}
+use Rattle.std.specs.Prelude.{◌≡◌, ◌≢◌, ℕ, ◌+◌, ◌*◌, ◌-◌, ◌==◌, ◌⊎◌, min, fold, Bool, not, ◌&&◌, List, [], ◌∷◌, ◌++◌, IsTrue, Some, nat_lt, slice_get, if◌then◌else◌}
 use Rattle.std.specs.List.{list_all}
+use Rattle.dbpl_base.specs.declared.limits.TheConstants.{GREATEST_LITERAL}
 use Rattle.dbpl_base.specs.Words.{is_digit, is_hexadecimal, is_letter, is_octal, is_word_byte, reserved_words, signs}
 use Rattle.dbpl_base.specs.declared.lexeme.Lexeme.{Lexeme}
 use Rattle.dbpl_base.specs.declared.lexeme.Lexeme.TheVariants.{Ident, Number, CharCode, Text, Reserved, Sign, Finish}
@@ -23,8 +24,8 @@ abbrev pub number_in : ℕ → List ℕ → ℕ
 number_in base digits = fold (λ sum digit. sum * base + digit_worth digit) 0 digits
 
 -- a number as a token keeps it
-abbrev pub kept : ℕ → ℕ
-kept n = min n (2 ^ 32)
+abbrev pub number_kept : ℕ → ℕ
+number_kept n = min n GREATEST_LITERAL
 
 -- one or more digits that pass the test
 abbrev pub AreDigits : (ℕ → Bool) → List ℕ → Type 0
@@ -36,17 +37,17 @@ AreHexadecimal [] = ⊥
 AreHexadecimal (first ∷ others) = IsTrue (is_digit first) × IsTrue (list_all is_hexadecimal others)
 
 abbrev pub IsDecimalOf : ℕ → List ℕ → Type 0
-IsDecimalOf n word = AreDigits is_digit word × (n ≡ kept (number_in 10 word))
+IsDecimalOf n word = AreDigits is_digit word × (n ≡ number_kept (number_in 10 word))
 
 -- octal digits, and then this letter
 abbrev pub IsOctalOf : ℕ → ℕ → List ℕ → Type 0
 IsOctalOf letter n word =
-    (digits : List ℕ) × (word ≡ digits ++ letter ∷ []) × AreDigits is_octal digits × (n ≡ kept (number_in 8 digits))
+    (digits : List ℕ) × (word ≡ digits ++ letter ∷ []) × AreDigits is_octal digits × (n ≡ number_kept (number_in 8 digits))
 
 -- hexadecimal digits, and then H
 abbrev pub IsHexadecimalOf : ℕ → List ℕ → Type 0
 IsHexadecimalOf n word =
-    (digits : List ℕ) × (word ≡ digits ++ 72 ∷ []) × AreHexadecimal digits × (n ≡ kept (number_in 16 digits))
+    (digits : List ℕ) × (word ≡ digits ++ 72 ∷ []) × AreHexadecimal digits × (n ≡ number_kept (number_in 16 digits))
 
 -- the quote, a byte that ends a line, or none of these
 abbrev pub is_text_byte : ℕ → ℕ → Bool

@@ -1,5 +1,5 @@
 //! `List`: a `Vec` that contracts see as the list of its items, so that a copy equals what it copies.
-ghost use Rattle.std.specs.Prelude.{◌≡◌, ◌+◌, ◌<◌, ◌≤◌, ◌↔◌, [], ◌∷◌, ◌++◌, length, IsTrue, IfOk, MatchOption, OnOk, OnErr, OnSome, insert, remove, slice_get, slice_set};
+ghost use Rattle.std.specs.Prelude.{◌≡◌, ◌+◌, ◌<◌, ◌≤◌, ◌↔◌, [], ◌∷◌, ◌++◌, length, take, IsTrue, IfOk, MatchOption, OnOk, OnErr, OnSome, insert, remove, slice_get, slice_set};
 ghost use Rattle.std.specs.Option.{option_copied};
 
 use crate::Memory;
@@ -79,12 +79,32 @@ impl<T> List<T> {
 }
 
 impl<T: Drop> List<T> {
+    /// Adds an item at the end. The first takes room for itself alone: of the many lists of a tree few get a second.
     pub fn push(&mut self, item: T) -> Result<(), Memory>
         ensures ok { OnOk result (self.new ≡ self.old ++ item ∷ []) }
         ensures err { OnErr result (self.new ≡ self.old) }
     {
+        if self.items.capacity() == 0 {
+            self.items.reserve_exact(1)?;
+        }
         self.items.push(item)?;
         Ok(())
+    }
+
+    /// An empty list with room for so many items.
+    pub fn with_capacity(alloc: Global, capacity: usize) -> Result<List<T>, Memory>
+        ensures { IfOk result (λ list. list ≡ []) }
+    {
+        Ok(List {
+            items: Vec::with_capacity(alloc, capacity)?,
+        })
+    }
+
+    /// Keeps so many items at the front, or all where there are fewer.
+    pub fn truncate(&mut self, count: usize)
+        ensures { self.new ≡ take count self.old }
+    {
+        self.items.truncate(count);
     }
 
     /// Puts the item before the one that stands at `at`.

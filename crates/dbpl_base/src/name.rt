@@ -1,8 +1,11 @@
 //! `Name`: the bytes of an identifier, a file's name or a string.
-ghost use Rattle.std.specs.Prelude.{◌≡◌, ◌↔◌, IfOk, IsTrue};
+ghost use Rattle.std.specs.Prelude.{◌≡◌, ◌↔◌, bytes_eq, IfOk, IsTrue, refl, Some};
+ghost use Rattle.std.specs.Cmp.Lexicographic.{nat_list_cmp_total, slice_cmp, texts_po, texts_ties};
+ghost use Rattle.std.specs.Ordering.{nat_cmp};
 
 use crate::{List, Memory};
 use std::alloc::Global;
+use std::cmp::Ordering;
 use std::marker::Model;
 
 /// A list of bytes that stands for itself. It needn't be UTF-8.
@@ -37,7 +40,8 @@ impl Name {
     }
 
     pub fn is(&self, bytes: &[u8]) -> bool
-        ensures { IsTrue result ↔ (self.now ≡ bytes.now) }
+        ensures equal { IsTrue result ↔ (self.now ≡ bytes.now) }
+        ensures computed { result ≡ bytes_eq self.now bytes.now }
     {
         self.bytes.as_slice() == bytes
     }
@@ -46,6 +50,31 @@ impl Name {
         ensures { IfOk result (λ name. name ≡ self.now) }
     {
         name_of(alloc, self.as_bytes())
+    }
+}
+
+impl PartialOrd for Name {
+    ghost partial_cmp = { λ x y. Some (slice_cmp nat_cmp x y) };
+
+    ghost laws = { texts_po };
+
+    fn partial_cmp(&self, other: &Name) -> Option<Ordering> {
+        Some(self.cmp(other))
+    }
+}
+
+/// Names are ordered by their bytes.
+impl Ord for Name {
+    ghost cmp = { slice_cmp nat_cmp };
+
+    ghost total = { nat_list_cmp_total };
+
+    ghost matches_partial_cmp = { λ x y. refl };
+
+    ghost matches_eq = { λ x y. texts_ties x y };
+
+    fn cmp(&self, other: &Name) -> Ordering {
+        self.bytes.as_slice().cmp(other.bytes.as_slice())
     }
 }
 

@@ -3,7 +3,7 @@ use Rattle.std.proofs.Common.{◌≡◌, ◌≢◌, ◌⊎◌, ℕ, ◌+◌, ◌
 use Rattle.std.specs.List.{list_all}
 use Rattle.std.specs.Prelude.{take_while}
 use Rattle.std.proofs.lemmas.Bool.{and_from, and_parts, false≢true, or_left, true≢false}
-use Rattle.dbpl_base.specs.Spelling.{AreDigits, AreHexadecimal, Spells, kept, number_in}
+use Rattle.dbpl_base.specs.Spelling.{AreDigits, AreHexadecimal, Spells, number_in, number_kept}
 use Rattle.dbpl_base.specs.Words.{is_between, is_digit, is_hexadecimal, is_letter, is_octal}
 use Rattle.dbpl_base.specs.declared.lexeme.Lexeme.{Lexeme}
 use Rattle.dbpl_base.specs.declared.lexeme.Lexeme.TheVariants.{Ident, Number, CharCode, Text, Reserved, Sign, Finish}
@@ -119,12 +119,12 @@ are_hexadecimal [] h passes = h
 are_hexadecimal (first ∷ others) h passes = (h, (and_parts (is_hexadecimal first) _ passes).1)
 
 -- hexadecimal digits and H are the longest
-pub hexadecimal_stands : (text rest : List ℕ) → BeginsBy is_digit text → drop_while is_hexadecimal text ≡ 72 ∷ rest → StandsFirst text (Number (kept (number_in 16 (take_while is_hexadecimal text)))) rest
+pub hexadecimal_stands : (text rest : List ℕ) → BeginsBy is_digit text → drop_while is_hexadecimal text ≡ 72 ∷ rest → StandsFirst text (Number (number_kept (number_in 16 (take_while is_hexadecimal text)))) rest
 hexadecimal_stands text rest digit behind =
     let digits = take_while is_hexadecimal text in
     let first = run_begins is_hexadecimal text digit_is_hexadecimal digit in
     let whole = split_run is_hexadecimal text rest 72 behind in
-    number_stands text (Number (kept (number_in 16 digits))) (digits ++ 72 ∷ []) rest digit whole (inr (inr (digits, refl, are_hexadecimal digits first (run_passes is_hexadecimal text), refl))) (begins_append digits (72 ∷ []) first) (λ other after split is. rw last_length (bound text other after split is))
+    number_stands text (Number (number_kept (number_in 16 digits))) (digits ++ 72 ∷ []) rest digit whole (inr (inr (digits, refl, are_hexadecimal digits first (run_passes is_hexadecimal text), refl))) (begins_append digits (72 ∷ []) first) (λ other after split is. rw last_length (bound text other after split is))
   where
     bound : (text other after : List ℕ) → text ≡ other ++ after → DigitWord other → length other ≤ length (take_while is_hexadecimal text) + 1
     bound text other after split (decimal all) =
@@ -196,9 +196,9 @@ begins_cons : (byte : ℕ) (left : List ℕ) → begins_with byte left ≡ true 
 begins_cons byte [] e = absurd (false≢true e)
 begins_cons byte (first ∷ others) e = rw (eqb-true first byte e) refl
 
-pub hexadecimal_read : (text digits left after : List ℕ) (n : ℕ) → BeginsBy is_digit text → digits ≡ take_while is_hexadecimal text → left ≡ drop_while is_hexadecimal text → begins_with 72 left ≡ true → n ≡ kept (number_in 16 digits) → after ≡ drop 1 left → StandsFirst text (Number n) after
+pub hexadecimal_read : (text digits left after : List ℕ) (n : ℕ) → BeginsBy is_digit text → digits ≡ take_while is_hexadecimal text → left ≡ drop_while is_hexadecimal text → begins_with 72 left ≡ true → n ≡ number_kept (number_in 16 digits) → after ≡ drop 1 left → StandsFirst text (Number n) after
 hexadecimal_read text digits left after n digit digits_are left_is h value after_is =
-    let value_is : n ≡ kept (number_in 16 (take_while is_hexadecimal text)) = value ∙ ap (λ (d : List ℕ). kept (number_in 16 d)) digits_are in
+    let value_is : n ≡ number_kept (number_in 16 (take_while is_hexadecimal text)) = value ∙ ap (λ (d : List ℕ). number_kept (number_in 16 d)) digits_are in
     rw (value_is, after_is) (hexadecimal_stands text (drop 1 left) digit (sym left_is ∙ begins_cons 72 left h))
 
 -- what isn't a hexadecimal number: H doesn't stand behind the hexadecimal digits
@@ -208,19 +208,19 @@ NoHexadecimal text = begins_with 72 (drop_while is_hexadecimal text) ≡ false
 pub no_hexadecimal_read : (text left : List ℕ) → left ≡ drop_while is_hexadecimal text → begins_with 72 left ≡ false → NoHexadecimal text
 no_hexadecimal_read text left left_is h = ap (λ (t : List ℕ). begins_with 72 t) (sym left_is) ∙ h
 
-pub octal_read : (text digits left after : List ℕ) (n : ℕ) → BeginsBy is_digit text → NoHexadecimal text → digits ≡ take_while is_octal text → left ≡ drop_while is_octal text → begins_with 66 left ≡ true → n ≡ kept (number_in 8 digits) → after ≡ drop 1 left → StandsFirst text (Number n) after
+pub octal_read : (text digits left after : List ℕ) (n : ℕ) → BeginsBy is_digit text → NoHexadecimal text → digits ≡ take_while is_octal text → left ≡ drop_while is_octal text → begins_with 66 left ≡ true → n ≡ number_kept (number_in 8 digits) → after ≡ drop 1 left → StandsFirst text (Number n) after
 octal_read text digits left after n digit none digits_are left_is h value after_is =
-    let value_is : n ≡ kept (number_in 8 (take_while is_octal text)) = value ∙ ap (λ (d : List ℕ). kept (number_in 8 d)) digits_are in
+    let value_is : n ≡ number_kept (number_in 8 (take_while is_octal text)) = value ∙ ap (λ (d : List ℕ). number_kept (number_in 8 d)) digits_are in
     let behind = sym left_is ∙ begins_cons 66 left h in
     let some = some_octal text (drop 1 left) 66 digit (inl refl) behind in
-    rw (value_is, after_is) (octal_stands text (drop 1 left) (Number (kept (number_in 8 (take_while is_octal text)))) 66 digit none (inl refl) some behind (inr (inl (take_while is_octal text, refl, (some, run_passes is_octal text), refl))))
+    rw (value_is, after_is) (octal_stands text (drop 1 left) (Number (number_kept (number_in 8 (take_while is_octal text)))) 66 digit none (inl refl) some behind (inr (inl (take_while is_octal text, refl, (some, run_passes is_octal text), refl))))
 
-pub character_read : (text digits left after : List ℕ) (n : ℕ) → BeginsBy is_digit text → NoHexadecimal text → digits ≡ take_while is_octal text → left ≡ drop_while is_octal text → begins_with 67 left ≡ true → n ≡ kept (number_in 8 digits) → after ≡ drop 1 left → StandsFirst text (CharCode n) after
+pub character_read : (text digits left after : List ℕ) (n : ℕ) → BeginsBy is_digit text → NoHexadecimal text → digits ≡ take_while is_octal text → left ≡ drop_while is_octal text → begins_with 67 left ≡ true → n ≡ number_kept (number_in 8 digits) → after ≡ drop 1 left → StandsFirst text (CharCode n) after
 character_read text digits left after n digit none digits_are left_is h value after_is =
-    let value_is : n ≡ kept (number_in 8 (take_while is_octal text)) = value ∙ ap (λ (d : List ℕ). kept (number_in 8 d)) digits_are in
+    let value_is : n ≡ number_kept (number_in 8 (take_while is_octal text)) = value ∙ ap (λ (d : List ℕ). number_kept (number_in 8 d)) digits_are in
     let behind = sym left_is ∙ begins_cons 67 left h in
     let some = some_octal text (drop 1 left) 67 digit (inr refl) behind in
-    rw (value_is, after_is) (octal_stands text (drop 1 left) (CharCode (kept (number_in 8 (take_while is_octal text)))) 67 digit none (inr refl) some behind (take_while is_octal text, refl, (some, run_passes is_octal text), refl))
+    rw (value_is, after_is) (octal_stands text (drop 1 left) (CharCode (number_kept (number_in 8 (take_while is_octal text)))) 67 digit none (inr refl) some behind (take_while is_octal text, refl, (some, run_passes is_octal text), refl))
 
 -- no letter stands behind the octal digits
 abbrev pub NoOctal : List ℕ → Type 0
@@ -250,9 +250,9 @@ decimal_bound text none no_octal other after split (octal digits letter which is
 decimal_bound text none no_octal other after split (hexadecimal digits is all) =
     absurd (no_hexadecimal text other after digits none split is all)
 
-pub decimal_read : (text digits left : List ℕ) (n : ℕ) → BeginsBy is_digit text → NoHexadecimal text → NoOctal text → digits ≡ take_while is_digit text → left ≡ drop_while is_digit text → n ≡ kept (number_in 10 digits) → StandsFirst text (Number n) left
+pub decimal_read : (text digits left : List ℕ) (n : ℕ) → BeginsBy is_digit text → NoHexadecimal text → NoOctal text → digits ≡ take_while is_digit text → left ≡ drop_while is_digit text → n ≡ number_kept (number_in 10 digits) → StandsFirst text (Number n) left
 decimal_read text digits left n digit none no_octal digits_are left_is value =
     let run = take_while is_digit text in
     let first = run_begins is_digit text (λ byte e. e) digit in
-    let value_is : n ≡ kept (number_in 10 run) = value ∙ ap (λ (d : List ℕ). kept (number_in 10 d)) digits_are in
-    rw (value_is, left_is) (number_stands text (Number (kept (number_in 10 run))) run (drop_while is_digit text) digit (sym (run-and-rest is_digit text)) (inl ((some_digits run first, run_passes is_digit text), refl)) first (decimal_bound text none no_octal))
+    let value_is : n ≡ number_kept (number_in 10 run) = value ∙ ap (λ (d : List ℕ). number_kept (number_in 10 d)) digits_are in
+    rw (value_is, left_is) (number_stands text (Number (number_kept (number_in 10 run))) run (drop_while is_digit text) digit (sym (run-and-rest is_digit text)) (inl ((some_digits run first, run_passes is_digit text), refl)) first (decimal_bound text none no_octal))

@@ -8,9 +8,7 @@ ghost use Rattle.dbpl_scan.specs.Fronts.{BeginsBy, StandsFirst};
 
 use crate::bytes::{is_digit, is_hexadecimal, is_octal, past};
 use dbpl_base::Lexeme;
-
-/// No greater number is kept.
-const GREATEST: u64 = 4_294_967_296;
+use dbpl_base::limits::GREATEST_LITERAL;
 
 fn digit_count(text: &[u8]) -> usize
     ensures count { result ≡ prefix_len bytes.is_digit text.now }
@@ -79,11 +77,11 @@ fn digit_worth(digit: u8) -> u8
 /// The number that the digits are in this base, as a token keeps it.
 fn number_in(base: u8, digits: &[u8]) -> u64
     requires { 1 ≤ base }
-    ensures { result ≡ spelling.kept (spelling.number_in base digits.now) }
+    ensures { result ≡ spelling.number_kept (spelling.number_in base digits.now) }
 {
     let mut number: u64 = 0;
     for digit in digits {
-        number = (number * base as u64 + digit_worth(*digit) as u64).min(GREATEST);
+        number = (number * base as u64 + digit_worth(*digit) as u64).min(GREATEST_LITERAL);
     }
     number
 }

@@ -2,6 +2,7 @@
 ghost use Rattle.std.specs.Prelude.{◌≡◌, ◌≤◌, ◌⊎◌, List as Seq, length, IfOk};
 ghost use Rattle.dbpl_scan.specs.BreaksOff.{BreaksOffAt};
 ghost use Rattle.dbpl_scan.specs.Comments.{Scans};
+ghost use Rattle.dbpl_base.specs.declared.limits.TheConstants.{TEXT_BYTES};
 ghost use Rattle.dbpl_base.specs.declared.place.Place.{Place as At};
 ghost use Rattle.dbpl_base.specs.declared.token.Token.{Token as Item};
 
@@ -15,7 +16,7 @@ use std::alloc::Global;
 
 /// The tokens of the text of a unit. The time is linear in the text.
 pub fn scan(alloc: Global, unit: u8, text: &[u8]) -> Result<List<Token>, ScanErr>
-    requires { length text.now ≤ 67108864 }
+    requires { length text.now ≤ TEXT_BYTES }
     ensures found { IfOk result (λ tokens. Scans unit text.now tokens) }
     ensures only { IfOk result (λ tokens. (other : Seq Item) → Scans unit text.now other → other ≡ tokens) }
     ensures bad { (place : At) → result ≡ Err (ScanErr.Bad place) → BreaksOffAt unit text.now place }

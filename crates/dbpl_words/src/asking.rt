@@ -22,7 +22,7 @@ pub fn request(words: &[Name]) -> Option<Request<'_>>
 }
 
 /// The file that the words ask to run alone, or nothing where they ask for no such run.
-pub fn alone(words: &[Name]) -> Option<&str>
+fn alone(words: &[Name]) -> Option<&str>
     ensures reading { IfSome result (λ file. AsksAlone words.now file.now) }
     ensures no_reading { IfNone result ((file : List ℕ) → AsksAlone words.now file → ⊥) }
 {

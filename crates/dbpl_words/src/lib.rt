@@ -7,7 +7,7 @@ mod noting;
 mod report;
 mod wanted;
 
-pub use asking::{alone, request};
+pub use asking::request;
 pub use laws::one_request;
 pub use report::note_report;
 pub use wanted::Request;

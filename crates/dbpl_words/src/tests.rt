@@ -1,5 +1,5 @@
 // The report of each status in a world in memory, and words with and without a reading.
-use crate::{Request, alone, note_report, request};
+use crate::{Request, note_report, request};
 use dbpl_base::{List, Name, Place, Status, name_of};
 use dbpl_world::MemoryWorld;
 use std::alloc::Global;
@@ -119,13 +119,6 @@ fn readings(rt: HostRuntime) -> Result<(), Fail> {
         let words = names(rt.alloc(), words)?;
         assert_eq!(rt; request(words.as_slice()), *reading);
     }
-    Ok(())
-}
-
-#[test]
-fn a_run_alone(rt: HostRuntime) -> Result<(), Fail> {
-    let words = names(rt.alloc(), &[b"run", b"-", b"a.mod"])?;
-    assert_eq!(rt; alone(words.as_slice()), Some("a.mod"));
     Ok(())
 }
 
