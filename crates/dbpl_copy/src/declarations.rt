@@ -1,14 +1,14 @@
 //! Copies of headings and declarations.
 ghost use Rattle.std.specs.Prelude.{◌≡◌, IfOk};
 
-use crate::expressions::{copy_aggregate, copy_expr};
+use crate::expressions::{copy_aggregate, copy_boxed_expr, copy_expr};
 use crate::names::{copy_ident, copy_idents, copy_optional_qual, copy_qual};
-use crate::pair::pair;
+use crate::pair::{boxed, pair};
 use crate::statements::copy_optional_body;
 use crate::types::copy_type;
 use dbpl_base::{List, Memory};
 use dbpl_tree::{
-    Common, ConstDecl, Decl, DefinitionItem, Expr, Heading, Ident, Params, PlainDecl, Qual,
+    BoxedExpr, Common, ConstDecl, Decl, DefinitionItem, Heading, Ident, Params, PlainDecl, Qual,
     Routine, Section, Signature, TypeDecl, VarDecl,
 };
 use std::alloc::Global;
@@ -157,13 +157,13 @@ fn copy_selected(
     alloc: Global,
     x: &Ident,
     q: &Qual,
-    e: &Expr,
-) -> Result<((Ident, Qual), Expr), Memory>
+    e: &BoxedExpr,
+) -> Result<((Ident, Qual), BoxedExpr), Memory>
     ensures { IfOk result (λ copied. copied ≡ ((x.now, q.now), e.now)) }
 {
     pair(
         pair(copy_ident(alloc, x)?, copy_qual(alloc, q))?,
-        copy_expr(alloc, e),
+        copy_boxed_expr(alloc, e),
     )
 }
 
@@ -236,7 +236,7 @@ fn copy_decl(alloc: Global, d: &Decl) -> Result<Decl, Memory>
 {
     match d {
         Decl::Common(c) => Ok(Decl::Common(copy_common(alloc, c)?)),
-        Decl::Routine(r) => Ok(Decl::Routine(copy_routine(alloc, r)?)),
+        Decl::Routine(r) => Ok(Decl::Routine(boxed(alloc, copy_routine(alloc, r.get()))?)),
     }
 }
 

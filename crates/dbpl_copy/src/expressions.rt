@@ -2,11 +2,11 @@
 ghost use Rattle.std.specs.Prelude.{◌≡◌, IfOk};
 
 use crate::names::{copy_ident, copy_qual};
-use crate::pair::pair;
+use crate::pair::{boxed, pair};
 use dbpl_base::{Boxed, List, Memory};
 use dbpl_tree::{
-    Added, Aggregate, Arguments, Compared, Designator, Each, Element, Expr, Exprs, Factor,
-    Multiplied, Part, Range, Simple, Term,
+    Added, Aggregate, Arguments, BoxedArguments, BoxedExpr, BoxedRange, Compared, Designator, Each,
+    Element, Expr, Exprs, Factor, Multiplied, Part, Range, Simple, Term,
 };
 use std::alloc::Global;
 
@@ -18,32 +18,36 @@ fn copy_factor(alloc: Global, f: &Factor) -> Result<Factor, Memory>
         Factor::Number(place, n) => Ok(Factor::Number(*place, *n)),
         Factor::CharCode(place, n) => Ok(Factor::CharCode(*place, *n)),
         Factor::Text(place, text) => Ok(Factor::Text(*place, text.copy(alloc)?)),
-        Factor::Aggregate(a) => Ok(Factor::Aggregate(copy_aggregate(alloc, a)?)),
+        Factor::Aggregate(a) => Ok(Factor::Aggregate(boxed(
+            alloc,
+            copy_aggregate(alloc, a.get()),
+        )?)),
         Factor::Designator(d, a) => {
-            let (d, a) = pair(copy_designator(alloc, d)?, copy_arguments(alloc, a))?;
+            let (d, a) = pair(
+                copy_designator(alloc, d)?,
+                copy_optional_arguments(alloc, a),
+            )?;
             Ok(Factor::Designator(d, a))
         }
         Factor::Parenthesized(place, e) => {
-            Ok(Factor::Parenthesized(*place, copy_boxed_expr(alloc, e)?))
+            Ok(Factor::Parenthesized(*place, boxed(alloc, copy_expr(alloc, e.get()))?))
         }
-        Factor::Not(place, operator, g) => {
-            Ok(Factor::Not(*place, *operator, copy_boxed_factor(alloc, g)?))
-        }
+        Factor::Not(place, operator, g) => Ok(Factor::Not(
+            *place,
+            *operator,
+            boxed(alloc, copy_factor(alloc, g.get()))?,
+        )),
         Factor::Quantified(place, quantifier, x, r, e) => {
             let ((x, r), e) = pair(
-                pair(copy_ident(alloc, x)?, copy_range(alloc, r))?,
-                copy_boxed_expr(alloc, e),
+                pair(
+                    copy_ident(alloc, x)?,
+                    boxed(alloc, copy_range(alloc, r.get())),
+                )?,
+                boxed(alloc, copy_expr(alloc, e.get())),
             )?;
             Ok(Factor::Quantified(*place, *quantifier, x, r, e))
         }
     }
-}
-
-#[cycle(copy_phrases)]
-fn copy_boxed_factor(alloc: Global, f: &Boxed<Factor>) -> Result<Boxed<Factor>, Memory>
-    ensures { IfOk result (λ copied. copied ≡ f.now) }
-{
-    Boxed::new(alloc, copy_factor(alloc, f.get())?)
 }
 
 #[cycle(copy_phrases)]
@@ -105,15 +109,25 @@ fn copy_simple(alloc: Global, s: &Simple) -> Result<Simple, Memory>
 }
 
 #[cycle(copy_phrases)]
-fn copy_compared(alloc: Global, c: &Option<Compared>) -> Result<Option<Compared>, Memory>
+fn copy_compared(
+    alloc: Global,
+    c: &Option<Boxed<Compared>>,
+) -> Result<Option<Boxed<Compared>>, Memory>
     ensures { IfOk result (λ copied. copied ≡ c.now) }
 {
     match c {
-        Some(c) => Ok(Some(Compared {
-            place: c.place,
-            relation: c.relation,
-            right: copy_simple(alloc, &c.right)?,
-        })),
+        Some(c) => {
+            let c = c.get();
+            let right = copy_simple(alloc, &c.right)?;
+            Ok(Some(Boxed::new(
+                alloc,
+                Compared {
+                    place: c.place,
+                    relation: c.relation,
+                    right,
+                },
+            )?))
+        }
         None => Ok(None),
     }
 }
@@ -128,13 +142,6 @@ pub fn copy_expr(alloc: Global, e: &Expr) -> Result<Expr, Memory>
         left,
         right,
     })
-}
-
-#[cycle(copy_phrases)]
-fn copy_boxed_expr(alloc: Global, e: &Boxed<Expr>) -> Result<Boxed<Expr>, Memory>
-    ensures { IfOk result (λ copied. copied ≡ e.now) }
-{
-    Boxed::new(alloc, copy_expr(alloc, e.get())?)
 }
 
 #[cycle(copy_phrases)]
@@ -153,7 +160,7 @@ fn copy_exprs(alloc: Global, es: &Exprs) -> Result<Exprs, Memory>
     ensures { IfOk result (λ copied. copied ≡ es.now) }
 {
     let (first, others) = pair(
-        copy_boxed_expr(alloc, &es.first)?,
+        boxed(alloc, copy_expr(alloc, es.first.get()))?,
         copy_expr_list(alloc, &es.others),
     )?;
     Ok(Exprs { first, others })
@@ -189,23 +196,33 @@ pub fn copy_designator(alloc: Global, d: &Designator) -> Result<Designator, Memo
 }
 
 #[cycle(copy_phrases)]
-pub fn copy_arguments(alloc: Global, a: &Option<Arguments>) -> Result<Option<Arguments>, Memory>
+fn copy_arguments(alloc: Global, a: &Arguments) -> Result<Arguments, Memory>
     ensures { IfOk result (λ copied. copied ≡ a.now) }
 {
     match a {
-        Some(
-            Arguments {
-                place,
-                exprs: Some(es),
-            },
-        ) => Ok(Some(Arguments {
+        Arguments {
+            place,
+            exprs: Some(es),
+        } => Ok(Arguments {
             place: *place,
             exprs: Some(copy_exprs(alloc, es)?),
-        })),
-        Some(Arguments { place, exprs: None }) => Ok(Some(Arguments {
+        }),
+        Arguments { place, exprs: None } => Ok(Arguments {
             place: *place,
             exprs: None,
-        })),
+        }),
+    }
+}
+
+#[cycle(copy_phrases)]
+fn copy_optional_arguments(
+    alloc: Global,
+    a: &Option<Boxed<Arguments>>,
+) -> Result<Option<Boxed<Arguments>>, Memory>
+    ensures { IfOk result (λ copied. copied ≡ a.now) }
+{
+    match a {
+        Some(one) => Ok(Some(boxed(alloc, copy_arguments(alloc, one.get()))?)),
         None => Ok(None),
     }
 }
@@ -238,17 +255,23 @@ fn copy_element(alloc: Global, element: &Element) -> Result<Element, Memory>
 {
     match element {
         Element::Each(c, e) => {
-            let (c, e) = pair(copy_each(alloc, c)?, copy_boxed_expr(alloc, e))?;
+            let (c, e) = pair(
+                copy_each(alloc, c)?,
+                boxed(alloc, copy_expr(alloc, e.get())),
+            )?;
             Ok(Element::Each(c, e))
         }
         Element::Plain(e) => Ok(Element::Plain(copy_expr(alloc, e)?)),
         Element::Of(target, c, cs, e) => {
             let (((target, c), cs), e) = pair(
                 pair(
-                    pair(copy_expr(alloc, target)?, copy_each(alloc, c))?,
+                    pair(
+                        boxed(alloc, copy_expr(alloc, target.get()))?,
+                        copy_each(alloc, c),
+                    )?,
                     copy_eachs(alloc, cs),
                 )?,
-                copy_boxed_expr(alloc, e),
+                boxed(alloc, copy_expr(alloc, e.get())),
             )?;
             Ok(Element::Of(target, c, cs, e))
         }
@@ -279,20 +302,44 @@ fn copy_eachs(alloc: Global, cs: &List<Each>) -> Result<List<Each>, Memory>
 }
 
 #[cycle(copy_phrases)]
-pub fn copy_range(alloc: Global, r: &Range) -> Result<Range, Memory>
+fn copy_range(alloc: Global, r: &Range) -> Result<Range, Memory>
     ensures { IfOk result (λ copied. copied ≡ r.now) }
 {
     match r {
         Range::Designator(d) => Ok(Range::Designator(copy_designator(alloc, d)?)),
-        Range::Aggregate(a) => Ok(Range::Aggregate(copy_aggregate(alloc, a)?)),
+        Range::Aggregate(a) => Ok(Range::Aggregate(boxed(alloc, copy_aggregate(alloc, a.get()))?)),
     }
 }
 
-pub fn copy_optional_expr(alloc: Global, e: &Option<Expr>) -> Result<Option<Expr>, Memory>
+pub fn copy_boxed_expr(alloc: Global, e: &BoxedExpr) -> Result<BoxedExpr, Memory>
+    ensures { IfOk result (λ copied. copied ≡ e.now) }
+{
+    BoxedExpr::new(alloc, copy_expr(alloc, e.get())?)
+}
+
+pub fn copy_optional_expr(alloc: Global, e: &Option<BoxedExpr>) -> Result<Option<BoxedExpr>, Memory>
     ensures { IfOk result (λ copied. copied ≡ e.now) }
 {
     match e {
-        Some(one) => Ok(Some(copy_expr(alloc, one)?)),
+        Some(one) => Ok(Some(copy_boxed_expr(alloc, one)?)),
+        None => Ok(None),
+    }
+}
+
+pub fn copy_boxed_range(alloc: Global, r: &BoxedRange) -> Result<BoxedRange, Memory>
+    ensures { IfOk result (λ copied. copied ≡ r.now) }
+{
+    BoxedRange::new(alloc, copy_range(alloc, r.get())?)
+}
+
+pub fn copy_boxed_arguments(
+    alloc: Global,
+    a: &Option<BoxedArguments>,
+) -> Result<Option<BoxedArguments>, Memory>
+    ensures { IfOk result (λ copied. copied ≡ a.now) }
+{
+    match a {
+        Some(one) => Ok(Some(BoxedArguments::new(alloc, copy_arguments(alloc, one.get())?)?)),
         None => Ok(None),
     }
 }

@@ -2,14 +2,15 @@
 ghost use Rattle.std.specs.Prelude.{◌≡◌, IfOk};
 
 use crate::expressions::{
-    copy_arguments, copy_designator, copy_expr, copy_optional_expr, copy_range,
+    copy_boxed_arguments, copy_boxed_expr, copy_boxed_range, copy_designator, copy_expr,
+    copy_optional_expr,
 };
 use crate::names::copy_ident;
-use crate::pair::pair;
+use crate::pair::{boxed, pair};
 use dbpl_base::{Boxed, List, Memory, Place};
 use dbpl_tree::{
-    Arguments, Case, ChangeOperator, Designator, Elsif, Expr, Ident, Label, Range, Statement,
-    Statements,
+    BoxedArguments, BoxedExpr, BoxedRange, Case, ChangeOperator, Designator, Elsif, Ident, Label,
+    Statement, Statements,
 };
 use std::alloc::Global;
 
@@ -26,20 +27,23 @@ fn copy_statement(alloc: Global, s: &Statement) -> Result<Statement, Memory>
         Statement::If(place, e, body, elsifs, otherwise) => {
             let (((e, body), elsifs), otherwise) = pair(
                 pair(
-                    pair(copy_expr(alloc, e)?, copy_body(alloc, body))?,
+                    pair(copy_boxed_expr(alloc, e)?, copy_body(alloc, body))?,
                     copy_elsifs(alloc, elsifs),
                 )?,
-                copy_optional_body(alloc, otherwise),
+                copy_otherwise(alloc, otherwise),
             )?;
             Ok(Statement::If(*place, e, body, elsifs, otherwise))
         }
         Statement::Case(place, e, first, others, otherwise) => {
             let (((e, first), others), otherwise) = pair(
                 pair(
-                    pair(copy_expr(alloc, e)?, copy_case(alloc, first))?,
+                    pair(
+                        copy_boxed_expr(alloc, e)?,
+                        boxed(alloc, copy_case(alloc, first.get())),
+                    )?,
                     copy_cases(alloc, others),
                 )?,
-                copy_optional_body(alloc, otherwise),
+                copy_otherwise(alloc, otherwise),
             )?;
             Ok(Statement::Case(*place, e, first, others, otherwise))
         }
@@ -49,10 +53,22 @@ fn copy_statement(alloc: Global, s: &Statement) -> Result<Statement, Memory>
         Statement::Exit(place) => Ok(Statement::Exit(*place)),
         Statement::Return(place, e) => Ok(Statement::Return(*place, copy_optional_expr(alloc, e)?)),
         Statement::For(place, x, first, last, step, body) => copy_for(
-            alloc, body, *place, x, first, last, step,
+            alloc,
+            body.get(),
+            *place,
+            x,
+            first,
+            last,
+            step,
         ),
         Statement::ForEach(place, each, x, r, e, body) => copy_for_each(
-            alloc, body, *place, *each, x, r, e,
+            alloc,
+            body.get(),
+            *place,
+            *each,
+            x,
+            r,
+            e,
         ),
     }
 }
@@ -62,26 +78,31 @@ fn copy_change(
     target: &Designator,
     place: Place,
     operator: ChangeOperator,
-    e: &Expr,
+    e: &BoxedExpr,
 ) -> Result<Statement, Memory>
     ensures { IfOk result (λ copied. copied ≡ Statement.Change target.now place operator e.now) }
 {
-    let (target, e) = pair(copy_designator(alloc, target)?, copy_expr(alloc, e))?;
+    let (target, e) = pair(copy_designator(alloc, target)?, copy_boxed_expr(alloc, e))?;
     Ok(Statement::Change(target, place, operator, e))
 }
 
-fn copy_call(alloc: Global, d: &Designator, a: &Option<Arguments>) -> Result<Statement, Memory>
+fn copy_call(alloc: Global, d: &Designator, a: &Option<BoxedArguments>) -> Result<Statement, Memory>
     ensures { IfOk result (λ copied. copied ≡ Statement.Call d.now a.now) }
 {
-    let (d, a) = pair(copy_designator(alloc, d)?, copy_arguments(alloc, a))?;
+    let (d, a) = pair(copy_designator(alloc, d)?, copy_boxed_arguments(alloc, a))?;
     Ok(Statement::Call(d, a))
 }
 
 #[cycle(copy_statements)]
-fn copy_while(alloc: Global, body: &Statements, place: Place, e: &Expr) -> Result<Statement, Memory>
+fn copy_while(
+    alloc: Global,
+    body: &Statements,
+    place: Place,
+    e: &BoxedExpr,
+) -> Result<Statement, Memory>
     ensures { IfOk result (λ copied. copied ≡ Statement.While place e.now body.now) }
 {
-    let (e, body) = pair(copy_expr(alloc, e)?, copy_body(alloc, body))?;
+    let (e, body) = pair(copy_boxed_expr(alloc, e)?, copy_body(alloc, body))?;
     Ok(Statement::While(place, e, body))
 }
 
@@ -90,25 +111,25 @@ fn copy_repeat(
     alloc: Global,
     body: &Statements,
     place: Place,
-    e: &Expr,
+    e: &BoxedExpr,
 ) -> Result<Statement, Memory>
     ensures { IfOk result (λ copied. copied ≡ Statement.Repeat place body.now e.now) }
 {
-    let (body, e) = pair(copy_body(alloc, body)?, copy_expr(alloc, e))?;
+    let (body, e) = pair(copy_body(alloc, body)?, copy_boxed_expr(alloc, e))?;
     Ok(Statement::Repeat(place, body, e))
 }
 
 /// From where to where FOR goes, and by which steps.
 fn copy_steps(
     alloc: Global,
-    first: &Expr,
-    last: &Expr,
-    step: &Option<Expr>,
-) -> Result<((Expr, Expr), Option<Expr>), Memory>
+    first: &BoxedExpr,
+    last: &BoxedExpr,
+    step: &Option<BoxedExpr>,
+) -> Result<((BoxedExpr, BoxedExpr), Option<BoxedExpr>), Memory>
     ensures { IfOk result (λ copied. copied ≡ ((first.now, last.now), step.now)) }
 {
     pair(
-        pair(copy_expr(alloc, first)?, copy_expr(alloc, last))?,
+        pair(copy_boxed_expr(alloc, first)?, copy_boxed_expr(alloc, last))?,
         copy_optional_expr(alloc, step),
     )
 }
@@ -119,15 +140,15 @@ fn copy_for(
     body: &Statements,
     place: Place,
     x: &Ident,
-    first: &Expr,
-    last: &Expr,
-    step: &Option<Expr>,
+    first: &BoxedExpr,
+    last: &BoxedExpr,
+    step: &Option<BoxedExpr>,
 ) -> Result<Statement, Memory>
     ensures { IfOk result (λ copied. copied ≡ Statement.For place x.now first.now last.now step.now body.now) }
 {
     let ((x, ((first, last), step)), body) = pair(
         pair(copy_ident(alloc, x)?, copy_steps(alloc, first, last, step))?,
-        copy_body(alloc, body),
+        boxed(alloc, copy_body(alloc, body)),
     )?;
     Ok(Statement::For(place, x, first, last, step, body))
 }
@@ -139,26 +160,19 @@ fn copy_for_each(
     place: Place,
     each: Place,
     x: &Ident,
-    r: &Range,
-    e: &Expr,
+    r: &BoxedRange,
+    e: &BoxedExpr,
 ) -> Result<Statement, Memory>
     ensures { IfOk result (λ copied. copied ≡ Statement.ForEach place each x.now r.now e.now body.now) }
 {
     let (((x, r), e), body) = pair(
         pair(
-            pair(copy_ident(alloc, x)?, copy_range(alloc, r))?,
-            copy_expr(alloc, e),
+            pair(copy_ident(alloc, x)?, copy_boxed_range(alloc, r))?,
+            copy_boxed_expr(alloc, e),
         )?,
-        copy_body(alloc, body),
+        boxed(alloc, copy_body(alloc, body)),
     )?;
     Ok(Statement::ForEach(place, each, x, r, e, body))
-}
-
-#[cycle(copy_statements)]
-fn copy_boxed_statement(alloc: Global, s: &Boxed<Statement>) -> Result<Boxed<Statement>, Memory>
-    ensures { IfOk result (λ copied. copied ≡ s.now) }
-{
-    Boxed::new(alloc, copy_statement(alloc, s.get())?)
 }
 
 #[cycle(copy_statements)]
@@ -177,13 +191,12 @@ fn copy_body(alloc: Global, body: &Statements) -> Result<Statements, Memory>
     ensures { IfOk result (λ copied. copied ≡ body.now) }
 {
     let (first, others) = pair(
-        copy_boxed_statement(alloc, &body.first)?,
+        boxed(alloc, copy_statement(alloc, body.first.get()))?,
         copy_list(alloc, &body.others),
     )?;
     Ok(Statements { first, others })
 }
 
-#[cycle(copy_statements)]
 pub fn copy_optional_body(
     alloc: Global,
     body: &Option<Statements>,
@@ -192,6 +205,20 @@ pub fn copy_optional_body(
 {
     match body {
         Some(one) => Ok(Some(copy_body(alloc, one)?)),
+        None => Ok(None),
+    }
+}
+
+/// The branch ELSE.
+#[cycle(copy_statements)]
+fn copy_otherwise(
+    alloc: Global,
+    body: &Option<Boxed<Statements>>,
+) -> Result<Option<Boxed<Statements>>, Memory>
+    ensures { IfOk result (λ copied. copied ≡ body.now) }
+{
+    match body {
+        Some(one) => Ok(Some(boxed(alloc, copy_body(alloc, one.get()))?)),
         None => Ok(None),
     }
 }
@@ -249,7 +276,7 @@ fn copy_label(alloc: Global, label: &Label) -> Result<Label, Memory>
     ensures { IfOk result (λ copied. copied ≡ label.now) }
 {
     let (low, high) = pair(
-        copy_expr(alloc, &label.low)?,
+        copy_boxed_expr(alloc, &label.low)?,
         copy_optional_expr(alloc, &label.high),
     )?;
     Ok(Label { low, high })

@@ -1,10 +1,10 @@
 //! Copies of types.
 ghost use Rattle.std.specs.Prelude.{◌≡◌, IfOk};
 
-use crate::expressions::copy_expr;
+use crate::expressions::copy_boxed_expr;
 use crate::names::{copy_idents, copy_qual};
-use crate::pair::pair;
-use dbpl_base::{Boxed, List, Memory};
+use crate::pair::{boxed, pair};
+use dbpl_base::{List, Memory};
 use dbpl_tree::{Fields, TypeTree};
 use std::alloc::Global;
 
@@ -19,16 +19,16 @@ pub fn copy_type(alloc: Global, t: &TypeTree) -> Result<TypeTree, Memory>
             copy_idents(alloc, names)?,
         )),
         TypeTree::Subrange(place, low, high) => {
-            let (low, high) = pair(copy_expr(alloc, low)?, copy_expr(alloc, high))?;
+            let (low, high) = pair(copy_boxed_expr(alloc, low)?, copy_boxed_expr(alloc, high))?;
             Ok(TypeTree::Subrange(*place, low, high))
         }
         TypeTree::Array(place, index, others, element) => {
             let ((index, others), element) = pair(
                 pair(
-                    copy_boxed_type(alloc, index)?,
+                    boxed(alloc, copy_type(alloc, index.get()))?,
                     copy_type_list(alloc, others),
                 )?,
-                copy_boxed_type(alloc, element),
+                boxed(alloc, copy_type(alloc, element.get())),
             )?;
             Ok(TypeTree::Array(*place, index, others, element))
         }
@@ -44,13 +44,6 @@ pub fn copy_type(alloc: Global, t: &TypeTree) -> Result<TypeTree, Memory>
             Ok(TypeTree::Relation(*place, keys, q))
         }
     }
-}
-
-#[cycle(copy_types)]
-fn copy_boxed_type(alloc: Global, t: &Boxed<TypeTree>) -> Result<Boxed<TypeTree>, Memory>
-    ensures { IfOk result (λ copied. copied ≡ t.now) }
-{
-    Boxed::new(alloc, copy_type(alloc, t.get())?)
 }
 
 #[cycle(copy_types)]
@@ -71,7 +64,10 @@ fn copy_fields(alloc: Global, fields: &Fields) -> Result<Fields, Memory>
     match fields {
         Fields::Empty(place) => Ok(Fields::Empty(*place)),
         Fields::Fields(names, t) => {
-            let (names, t) = pair(copy_idents(alloc, names)?, copy_boxed_type(alloc, t))?;
+            let (names, t) = pair(
+                copy_idents(alloc, names)?,
+                boxed(alloc, copy_type(alloc, t.get())),
+            )?;
             Ok(Fields::Fields(names, t))
         }
     }

@@ -3,9 +3,9 @@ use Rattle.std.proofs.Common.{◌≡◌, ◌≢◌, ℕ, List, Result, Err, inl,
 use Rattle.dbpl_base.specs.Places.{start_of}
 use Rattle.dbpl_base.specs.declared.place.Place.{Place}
 use Rattle.dbpl_base.specs.declared.token.Token.{Token}
-use Rattle.dbpl_front.proofs.TextLaw.{module_or_refusal, scans_end, unit_or_misspelt}
+use Rattle.dbpl_front.proofs.TextLaw.{scans_end, unit_or_misspelt}
 use Rattle.dbpl_front.specs.Errors.{of_parse, of_scan}
-use Rattle.dbpl_front.specs.Texts.{IsNoModule, IsUnparsed, IsUnread, IsUnspelt, SpellsUnit}
+use Rattle.dbpl_front.specs.Texts.{IsUnparsed, IsUnspelt, SpellsUnit}
 use Rattle.dbpl_front.specs.declared.front_err.FrontErr.{FrontErr}
 use Rattle.dbpl_front.specs.declared.front_err.FrontErr.TheVariants as errors
 use Rattle.dbpl_grammar.specs.Laws.{HasEnd, IsText}
@@ -58,14 +58,3 @@ pub unspelt_no_unit : (number : ℕ) (text : List ℕ) (error : FrontErr) → Is
 unspelt_no_unit number text (errors.Refused refusal) cause some unit spelt =
     unit_or_misspelt number text unit refusal.place refusal.rule spelt cause
 unspelt_no_unit number text errors.Memory cause some unit spelt = absurd (some refl)
-
--- a text without a unit is not read for that reason
-pub unspelt_unread : (text : List ℕ) (error : FrontErr) → IsUnspelt 0 text error → IsUnread text error
-unspelt_unread text (errors.Refused refusal) cause = inl cause
-unspelt_unread text errors.Memory cause = tt
-
--- a text that is refused is no module
-pub unread_no_module : (text : List ℕ) (error : FrontErr) → IsUnread text error → error ≢ errors.Memory → IsNoModule text
-unread_no_module text (errors.Refused refusal) cause some program m =
-    module_or_refusal text program refusal.place refusal.rule m cause
-unread_no_module text errors.Memory cause some program m = absurd (some refl)

@@ -1,12 +1,9 @@
--- Which texts are modules that can be run so far, and why another text is refused.
-use Rattle.std.specs.Prelude.{◌≡◌, ◌⊎◌, ℕ, List, Some, None, Err}
-use Rattle.dbpl_base.specs.Places.{start_of}
+-- Which texts spell a unit, and why another text is refused.
+use Rattle.std.specs.Prelude.{◌≡◌, ◌⊎◌, ℕ, List, Err}
 use Rattle.dbpl_base.specs.declared.place.Place.{Place}
 use Rattle.dbpl_base.specs.declared.token.Token.{Token}
-use Rattle.dbpl_front.specs.Small.{small_of}
 use Rattle.dbpl_front.specs.declared.front_err.FrontErr.{FrontErr}
 use Rattle.dbpl_front.specs.declared.front_err.FrontErr.TheVariants as errors
-use Rattle.dbpl_front.specs.declared.program.Program.{Program}
 use Rattle.dbpl_grammar.specs.Laws.{IsText}
 use Rattle.dbpl_grammar.specs.Reading.{Refused}
 use Rattle.dbpl_grammar.specs.Units.{depth_limit, whole_unit}
@@ -23,16 +20,6 @@ pub record SpellsUnit (number : ℕ) (text : List ℕ) (unit : Tree) : Type 0 wh
   pub tokens : List Token
   pub scanned : Scans number text tokens
   pub spelled : IsText tokens unit
-
--- THE texts that can be run: the text spells a unit, and that is this module.
-pub record IsModule (text : List ℕ) (program : Program) : Type 0 where
-  pub unit : Tree
-  pub spelt : SpellsUnit 0 text unit
-  pub small : small_of unit ≡ Some program
-
--- no module that can be run so far has this text
-abbrev pub IsNoModule : List ℕ → Type 0
-IsNoModule text = (program : Program) → ¬ IsModule text program
 
 -- ---- refusals
 
@@ -61,12 +48,6 @@ pub record IsUnparsed (number : ℕ) (text : List ℕ) (error : ParseErr) : Type
   pub read : whole_unit depth_limit tokens ≡ Err refused
   pub is : error ≡ error_of refused.reason refused.rest
 
--- The text spells a unit, but it is none that can be run so far.
-pub record IsUnbuilt (text : List ℕ) : Type 0 where
-  pub unit : Tree
-  pub spelt : SpellsUnit 0 text unit
-  pub other : small_of unit ≡ None
-
 -- the grammar refuses the text at this place, by L2 or by L3
 abbrev pub IsRefusedByGrammar : ℕ → List ℕ → Place → ℕ → Type 0
 IsRefusedByGrammar number text place rule =
@@ -77,16 +58,7 @@ abbrev pub IsMisspelt : ℕ → List ℕ → Place → ℕ → Type 0
 IsMisspelt number text place rule =
     ((rule ≡ 101) × IsUnscanned number text place) ⊎ IsRefusedByGrammar number text place rule
 
--- THE causes: why the text is refused at this place by the rule of this number, L1, L2, L3 or L9
-abbrev pub IsRefused : List ℕ → Place → ℕ → Type 0
-IsRefused text place rule = IsMisspelt 0 text place rule ⊎ ((rule ≡ 109) × (place ≡ start_of 0) × IsUnbuilt text)
-
 -- why no unit was found in a text, by cases on the error
 abbrev pub IsUnspelt : ℕ → List ℕ → FrontErr → Type 0
 IsUnspelt number text (errors.Refused refusal) = IsMisspelt number text refusal.place refusal.rule
 IsUnspelt number text errors.Memory = Unit {0}
-
--- why a text was not read, by cases on the error
-abbrev pub IsUnread : List ℕ → FrontErr → Type 0
-IsUnread text (errors.Refused refusal) = IsRefused text refusal.place refusal.rule
-IsUnread text errors.Memory = Unit {0}

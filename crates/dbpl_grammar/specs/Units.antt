@@ -2,6 +2,7 @@
 use Rattle.std.specs.Prelude.{ℕ, List, [], ◌∷◌, ◌++◌, Option, Result, Ok, Err}
 use Rattle.dbpl_base.specs.declared.lexeme.Lexeme.{Lexeme}
 use Rattle.dbpl_base.specs.declared.lexeme.Lexeme.TheVariants.{Finish}
+use Rattle.dbpl_base.specs.declared.limits.TheConstants.{PHRASE_DEPTH}
 use Rattle.dbpl_base.specs.declared.token.Token.{Token}
 use Rattle.dbpl_grammar.specs.Expressions.{aggregate, all_of, at_depth, ident, ident_first, idents, qual}
 use Rattle.dbpl_grammar.specs.Lexemes.{an_ident}
@@ -177,4 +178,4 @@ whole_unit depth tokens = closed (unit depth) Finish tokens >>= λ found. at_end
 
 -- how many phrases may stand inside one another
 abbrev pub depth_limit : ℕ
-depth_limit = 64
+depth_limit = PHRASE_DEPTH

@@ -15,20 +15,10 @@ use crate::names::{ident, qual};
 use crate::pair::{closing, pair};
 use crate::sets::begins_element;
 use crate::tokens::{begins_sign, begins_word, here, sign, turns, word};
-use crate::words::{COLON, COMMA, EACH, IN, LEFT_BRACE, OF, RIGHT_BRACE};
+use dbpl_base::words::{COLON, COMMA, EACH, IN, LEFT_BRACE, OF, RIGHT_BRACE};
 use dbpl_base::{Boxed, List, Place, Token};
 use dbpl_tree::{Aggregate, Each, Element, Expr, Factor, NotOperator, Range};
 use std::alloc::Global;
-
-/// An expression as an element, with its variables where it has some.
-fn element_of(target: Expr, found: Option<(Each, (List<Each>, Boxed<Expr>))>) -> Element
-    ensures { result ≡ spec.element_made (target, found) }
-{
-    match found {
-        None => Element::Plain(target),
-        Some((first, (others, predicate))) => Element::Of(target, first, others, predicate),
-    }
-}
 
 impl<
     E: Fn(Global, &[Token], usize, u8) -> Result<(Expr, usize), ReadErr>,
@@ -111,23 +101,6 @@ impl<
         Ok(((first, (others, predicate)), at))
     }
 
-    /// What follows a target, if it has variables.
-    fn optional_each_of(
-        &self,
-        tokens: &[Token],
-        at: usize,
-    ) -> Result<(Option<(Each, (List<Each>, Boxed<Expr>))>, usize), ReadErr>
-        requires expr { ReadsExpr self.now.depth (E.pre self.now.expr) (E.post self.now.expr) }
-        requires range { ReadsRange self.now.depth (R.pre self.now.range) (R.post self.now.range) }
-        ensures { Reads tokens.now result (optional (lexeme.word_of ∷ []) (spec.each_of (spec.at_depth self.now.depth)) (drop at tokens.now)) }
-    {
-        if !begins_word(tokens, at, OF) {
-            return Ok((None, at));
-        }
-        let (found, at) = self.each_of(tokens, at)?;
-        Ok((Some(found), at))
-    }
-
     /// An expression, or a target with its variables.
     fn plain_element(&self, tokens: &[Token], at: usize) -> Result<(Element, usize), ReadErr>
         requires expr { ReadsExpr self.now.depth (E.pre self.now.expr) (E.post self.now.expr) }
@@ -135,8 +108,12 @@ impl<
         ensures { Reads tokens.now result (made spec.element_made ((spec.at_depth self.now.depth).expr ⊗ optional (lexeme.word_of ∷ []) (spec.each_of (spec.at_depth self.now.depth))) (drop at tokens.now)) }
     {
         let (target, at) = self.expr(tokens, at)?;
-        let ((target, found), at) = pair(target, self.optional_each_of(tokens, at))?;
-        Ok((element_of(target, found), at))
+        if !begins_word(tokens, at, OF) {
+            return Ok((Element::Plain(target), at));
+        }
+        let target = Boxed::new(self.alloc, target)?;
+        let ((target, (first, (others, predicate))), at) = pair(target, self.each_of(tokens, at))?;
+        Ok((Element::Of(target, first, others, predicate), at))
     }
 
     /// Every record of a range for which a predicate holds.

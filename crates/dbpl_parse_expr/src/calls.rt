@@ -1,5 +1,6 @@
 //! What other crates call: trees from positions, and refusals by their places.
 ghost use Rattle.std.specs.Prelude.{◌≡◌, ◌≢◌, ◌-◌, drop, IfErr, IfOk, List as Seq};
+ghost use Rattle.dbpl_base.specs.declared.limits.TheConstants.{PHRASE_DEPTH};
 ghost use Rattle.dbpl_base.specs.declared.token.Token.{Token as Item};
 ghost use Rattle.dbpl_grammar.specs.Expressions as spec;
 ghost use Rattle.dbpl_grammar.specs.Laws.{HasEnd, Stands};
@@ -18,12 +19,10 @@ use crate::phrases::{aggregate, designator, expr, range};
 use crate::tokens::place_at;
 use crate::{ParseErr, ReadErr};
 use dbpl_base::Token;
+use dbpl_base::limits::PHRASE_DEPTH;
 use dbpl_grammar::{reads_aggregates, reads_designators, reads_expressions, reads_ranges};
 use dbpl_tree::{Aggregate, Designator, Expr, Range};
 use std::alloc::Global;
-
-/// How many phrases may stand inside one another.
-pub const DEPTH_LIMIT: u8 = 64;
 
 /// A refusal by the place of the token at which it shows.
 pub fn placed(tokens: &[Token], error: ReadErr) -> ParseErr
@@ -53,16 +52,16 @@ pub fn parse_expr(
     at: usize,
     depth: u8,
 ) -> Result<(Expr, usize), ParseErr>
-    ensures reads { Answers tokens.now result ((spec.at_depth (64 - depth)).expr (drop at tokens.now)) }
-    ensures found { HasEnd (drop at tokens.now) → IfOk result (λ answer. Stands (expr_marks factor_marks) (expr_depth factor_depth) (64 - depth) (drop at tokens.now) answer.0 (drop answer.1 tokens.now)) }
-    ensures only { IfOk result (λ answer. (phrase : ExprOf Factor) (rest : Seq Item) → Stands (expr_marks factor_marks) (expr_depth factor_depth) (64 - depth) (drop at tokens.now) phrase rest → (phrase ≡ answer.0) × (rest ≡ drop answer.1 tokens.now)) }
-    ensures refused { IfErr result (λ error. error ≢ ParseErr.Memory → (phrase : ExprOf Factor) (rest : Seq Item) → ¬ Stands (expr_marks factor_marks) (expr_depth factor_depth) (64 - depth) (drop at tokens.now) phrase rest) }
-    ensures placed { IfErr result (λ error. error ≢ ParseErr.Memory → HasEnd (drop at tokens.now) → RefusedAt (expr_marks factor_marks) (expr_depth factor_depth) (64 - depth) (drop at tokens.now) error) }
+    ensures reads { Answers tokens.now result ((spec.at_depth (PHRASE_DEPTH - depth)).expr (drop at tokens.now)) }
+    ensures found { HasEnd (drop at tokens.now) → IfOk result (λ answer. Stands (expr_marks factor_marks) (expr_depth factor_depth) (PHRASE_DEPTH - depth) (drop at tokens.now) answer.0 (drop answer.1 tokens.now)) }
+    ensures only { IfOk result (λ answer. (phrase : ExprOf Factor) (rest : Seq Item) → Stands (expr_marks factor_marks) (expr_depth factor_depth) (PHRASE_DEPTH - depth) (drop at tokens.now) phrase rest → (phrase ≡ answer.0) × (rest ≡ drop answer.1 tokens.now)) }
+    ensures refused { IfErr result (λ error. error ≢ ParseErr.Memory → (phrase : ExprOf Factor) (rest : Seq Item) → ¬ Stands (expr_marks factor_marks) (expr_depth factor_depth) (PHRASE_DEPTH - depth) (drop at tokens.now) phrase rest) }
+    ensures placed { IfErr result (λ error. error ≢ ParseErr.Memory → HasEnd (drop at tokens.now) → RefusedAt (expr_marks factor_marks) (expr_depth factor_depth) (PHRASE_DEPTH - depth) (drop at tokens.now) error) }
 {
     reads_expressions();
     answered(
         tokens,
-        expr(alloc, tokens, at, DEPTH_LIMIT.saturating_sub(depth)),
+        expr(alloc, tokens, at, PHRASE_DEPTH.saturating_sub(depth)),
     )
 }
 
@@ -73,16 +72,16 @@ pub fn parse_designator(
     at: usize,
     depth: u8,
 ) -> Result<(Designator, usize), ParseErr>
-    ensures reads { Answers tokens.now result (spec.designator (spec.at_depth (64 - depth)).expr (drop at tokens.now)) }
-    ensures found { HasEnd (drop at tokens.now) → IfOk result (λ answer. Stands (designator_marks factor_marks) (designator_depth factor_depth) (64 - depth) (drop at tokens.now) answer.0 (drop answer.1 tokens.now)) }
-    ensures only { IfOk result (λ answer. (phrase : DesignatorOf Factor) (rest : Seq Item) → Stands (designator_marks factor_marks) (designator_depth factor_depth) (64 - depth) (drop at tokens.now) phrase rest → (phrase ≡ answer.0) × (rest ≡ drop answer.1 tokens.now)) }
-    ensures refused { IfErr result (λ error. error ≢ ParseErr.Memory → (phrase : DesignatorOf Factor) (rest : Seq Item) → ¬ Stands (designator_marks factor_marks) (designator_depth factor_depth) (64 - depth) (drop at tokens.now) phrase rest) }
-    ensures placed { IfErr result (λ error. error ≢ ParseErr.Memory → HasEnd (drop at tokens.now) → RefusedAt (designator_marks factor_marks) (designator_depth factor_depth) (64 - depth) (drop at tokens.now) error) }
+    ensures reads { Answers tokens.now result (spec.designator (spec.at_depth (PHRASE_DEPTH - depth)).expr (drop at tokens.now)) }
+    ensures found { HasEnd (drop at tokens.now) → IfOk result (λ answer. Stands (designator_marks factor_marks) (designator_depth factor_depth) (PHRASE_DEPTH - depth) (drop at tokens.now) answer.0 (drop answer.1 tokens.now)) }
+    ensures only { IfOk result (λ answer. (phrase : DesignatorOf Factor) (rest : Seq Item) → Stands (designator_marks factor_marks) (designator_depth factor_depth) (PHRASE_DEPTH - depth) (drop at tokens.now) phrase rest → (phrase ≡ answer.0) × (rest ≡ drop answer.1 tokens.now)) }
+    ensures refused { IfErr result (λ error. error ≢ ParseErr.Memory → (phrase : DesignatorOf Factor) (rest : Seq Item) → ¬ Stands (designator_marks factor_marks) (designator_depth factor_depth) (PHRASE_DEPTH - depth) (drop at tokens.now) phrase rest) }
+    ensures placed { IfErr result (λ error. error ≢ ParseErr.Memory → HasEnd (drop at tokens.now) → RefusedAt (designator_marks factor_marks) (designator_depth factor_depth) (PHRASE_DEPTH - depth) (drop at tokens.now) error) }
 {
     reads_designators();
     answered(
         tokens,
-        designator(alloc, tokens, at, DEPTH_LIMIT.saturating_sub(depth)),
+        designator(alloc, tokens, at, PHRASE_DEPTH.saturating_sub(depth)),
     )
 }
 
@@ -93,16 +92,16 @@ pub fn parse_range(
     at: usize,
     depth: u8,
 ) -> Result<(Range, usize), ParseErr>
-    ensures reads { Answers tokens.now result ((spec.at_depth (64 - depth)).range (drop at tokens.now)) }
-    ensures found { HasEnd (drop at tokens.now) → IfOk result (λ answer. Stands range_marks range_depth (64 - depth) (drop at tokens.now) answer.0 (drop answer.1 tokens.now)) }
-    ensures only { IfOk result (λ answer. (phrase : ARange) (rest : Seq Item) → Stands range_marks range_depth (64 - depth) (drop at tokens.now) phrase rest → (phrase ≡ answer.0) × (rest ≡ drop answer.1 tokens.now)) }
-    ensures refused { IfErr result (λ error. error ≢ ParseErr.Memory → (phrase : ARange) (rest : Seq Item) → ¬ Stands range_marks range_depth (64 - depth) (drop at tokens.now) phrase rest) }
-    ensures placed { IfErr result (λ error. error ≢ ParseErr.Memory → HasEnd (drop at tokens.now) → RefusedAt range_marks range_depth (64 - depth) (drop at tokens.now) error) }
+    ensures reads { Answers tokens.now result ((spec.at_depth (PHRASE_DEPTH - depth)).range (drop at tokens.now)) }
+    ensures found { HasEnd (drop at tokens.now) → IfOk result (λ answer. Stands range_marks range_depth (PHRASE_DEPTH - depth) (drop at tokens.now) answer.0 (drop answer.1 tokens.now)) }
+    ensures only { IfOk result (λ answer. (phrase : ARange) (rest : Seq Item) → Stands range_marks range_depth (PHRASE_DEPTH - depth) (drop at tokens.now) phrase rest → (phrase ≡ answer.0) × (rest ≡ drop answer.1 tokens.now)) }
+    ensures refused { IfErr result (λ error. error ≢ ParseErr.Memory → (phrase : ARange) (rest : Seq Item) → ¬ Stands range_marks range_depth (PHRASE_DEPTH - depth) (drop at tokens.now) phrase rest) }
+    ensures placed { IfErr result (λ error. error ≢ ParseErr.Memory → HasEnd (drop at tokens.now) → RefusedAt range_marks range_depth (PHRASE_DEPTH - depth) (drop at tokens.now) error) }
 {
     reads_ranges();
     answered(
         tokens,
-        range(alloc, tokens, at, DEPTH_LIMIT.saturating_sub(depth)),
+        range(alloc, tokens, at, PHRASE_DEPTH.saturating_sub(depth)),
     )
 }
 
@@ -113,15 +112,15 @@ pub fn parse_aggregate(
     at: usize,
     depth: u8,
 ) -> Result<(Aggregate, usize), ParseErr>
-    ensures reads { Answers tokens.now result (spec.aggregate (spec.at_depth (64 - depth)) (drop at tokens.now)) }
-    ensures found { HasEnd (drop at tokens.now) → IfOk result (λ answer. Stands aggregate_marks aggregate_depth (64 - depth) (drop at tokens.now) answer.0 (drop answer.1 tokens.now)) }
-    ensures only { IfOk result (λ answer. (phrase : AnAggregate) (rest : Seq Item) → Stands aggregate_marks aggregate_depth (64 - depth) (drop at tokens.now) phrase rest → (phrase ≡ answer.0) × (rest ≡ drop answer.1 tokens.now)) }
-    ensures refused { IfErr result (λ error. error ≢ ParseErr.Memory → (phrase : AnAggregate) (rest : Seq Item) → ¬ Stands aggregate_marks aggregate_depth (64 - depth) (drop at tokens.now) phrase rest) }
-    ensures placed { IfErr result (λ error. error ≢ ParseErr.Memory → HasEnd (drop at tokens.now) → RefusedAt aggregate_marks aggregate_depth (64 - depth) (drop at tokens.now) error) }
+    ensures reads { Answers tokens.now result (spec.aggregate (spec.at_depth (PHRASE_DEPTH - depth)) (drop at tokens.now)) }
+    ensures found { HasEnd (drop at tokens.now) → IfOk result (λ answer. Stands aggregate_marks aggregate_depth (PHRASE_DEPTH - depth) (drop at tokens.now) answer.0 (drop answer.1 tokens.now)) }
+    ensures only { IfOk result (λ answer. (phrase : AnAggregate) (rest : Seq Item) → Stands aggregate_marks aggregate_depth (PHRASE_DEPTH - depth) (drop at tokens.now) phrase rest → (phrase ≡ answer.0) × (rest ≡ drop answer.1 tokens.now)) }
+    ensures refused { IfErr result (λ error. error ≢ ParseErr.Memory → (phrase : AnAggregate) (rest : Seq Item) → ¬ Stands aggregate_marks aggregate_depth (PHRASE_DEPTH - depth) (drop at tokens.now) phrase rest) }
+    ensures placed { IfErr result (λ error. error ≢ ParseErr.Memory → HasEnd (drop at tokens.now) → RefusedAt aggregate_marks aggregate_depth (PHRASE_DEPTH - depth) (drop at tokens.now) error) }
 {
     reads_aggregates();
     answered(
         tokens,
-        aggregate(alloc, tokens, at, DEPTH_LIMIT.saturating_sub(depth)),
+        aggregate(alloc, tokens, at, PHRASE_DEPTH.saturating_sub(depth)),
     )
 }

@@ -12,10 +12,10 @@ use crate::names::ident;
 use crate::pair::{closing, pair};
 use crate::sets::{begins_expr, begins_part};
 use crate::tokens::{begins_sign, here, sign, turns};
-use crate::words::{
+use dbpl_base::words::{
     COMMA, FULL_STOP, LEFT_BRACKET, LEFT_PARENTHESIS, RIGHT_BRACKET, RIGHT_PARENTHESIS,
 };
-use dbpl_base::{List, Place, Token};
+use dbpl_base::{Boxed, List, Place, Token};
 use dbpl_tree::{
     Arguments, ArgumentsOf, Designator, DesignatorOf, Expr, Exprs, ExprsOf, Factor, NotOperator,
     Part, PartOf, Range,
@@ -72,7 +72,7 @@ impl<
 
     /// Arguments in parentheses.
     #[tactic(auto, unfolding(dbpl_grammar::specs::Expressions::arguments))]
-    fn arguments(&self, tokens: &[Token], at: usize) -> Result<(Arguments, usize), ReadErr>
+    pub fn arguments(&self, tokens: &[Token], at: usize) -> Result<(Arguments, usize), ReadErr>
         requires expr { ReadsExpr self.now.depth (E.pre self.now.expr) (E.post self.now.expr) }
         ensures { Reads tokens.now result (spec.arguments (spec.at_depth self.now.depth).expr (drop at tokens.now)) }
     {
@@ -88,7 +88,7 @@ impl<
         &self,
         tokens: &[Token],
         at: usize,
-    ) -> Result<(Option<Arguments>, usize), ReadErr>
+    ) -> Result<(Option<Boxed<Arguments>>, usize), ReadErr>
         requires expr { ReadsExpr self.now.depth (E.pre self.now.expr) (E.post self.now.expr) }
         ensures { Reads tokens.now result (optional (lexeme.left_parenthesis ∷ []) (spec.arguments (spec.at_depth self.now.depth).expr) (drop at tokens.now)) }
     {
@@ -96,7 +96,7 @@ impl<
             return Ok((None, at));
         }
         let (arguments, at) = self.arguments(tokens, at)?;
-        Ok((Some(arguments), at))
+        Ok((Some(Boxed::new(self.alloc, arguments)?), at))
     }
 
     /// A further part of a designator.

@@ -11,7 +11,7 @@ use crate::operators::{adding, multiplying, relation, sign_operator};
 use crate::pair::pair;
 use crate::sets::{begins_adding, begins_multiplying, begins_relation, begins_signed};
 use crate::tokens::{here, turns};
-use dbpl_base::{List, Place, Token};
+use dbpl_base::{Boxed, List, Place, Token};
 use dbpl_tree::{
     Added, AddedOf, Compared, ComparedOf, Expr, ExprOf, Factor, Multiplied, MultipliedOf,
     NotOperator, Range, SignOperator, Simple, SimpleOf, Term, TermOf,
@@ -187,6 +187,21 @@ impl<
         ))
     }
 
+    /// The right side of a comparison in a box of its own.
+    fn boxed_compared(
+        &self,
+        tokens: &[Token],
+        at: usize,
+    ) -> Result<(Boxed<Compared>, usize), ReadErr>
+        requires expr { ReadsExpr self.now.depth (E.pre self.now.expr) (E.post self.now.expr) }
+        requires range { ReadsRange self.now.depth (R.pre self.now.range) (R.post self.now.range) }
+        requires negated { ReadsNegated self.now.depth (N.pre self.now.negated) (N.post self.now.negated) }
+        ensures { Reads tokens.now result (spec.compared (spec.factor (spec.at_depth self.now.depth)) (drop at tokens.now)) }
+    {
+        let (found, at) = self.compared(tokens, at)?;
+        Ok((Boxed::new(self.alloc, found)?, at))
+    }
+
     /// An expression in which so many phrases may stand inside one another.
     #[tactic(auto, unfolding(dbpl_grammar::specs::Expressions::expr))]
     pub fn whole_expr(&self, tokens: &[Token], at: usize) -> Result<(Expr, usize), ReadErr>
@@ -207,7 +222,7 @@ impl<
                 at,
             ));
         }
-        let ((left, right), at) = pair(left, self.compared(tokens, at))?;
+        let ((left, right), at) = pair(left, self.boxed_compared(tokens, at))?;
         Ok((
             ExprOf {
                 place,

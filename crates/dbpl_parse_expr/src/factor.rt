@@ -14,7 +14,9 @@ use crate::names::ident;
 use crate::operators::{not_operator, quantifier};
 use crate::pair::{closing, pair};
 use crate::tokens::{begins_sign, here, lexeme_at, sign, word};
-use crate::words::{ALL, IN, LEFT_BRACE, LEFT_PARENTHESIS, NOT, RIGHT_PARENTHESIS, SOME, TILDE};
+use dbpl_base::words::{
+    ALL, IN, LEFT_BRACE, LEFT_PARENTHESIS, NOT, RIGHT_PARENTHESIS, SOME, TILDE,
+};
 use dbpl_base::{Boxed, Lexeme, Place, Token};
 use dbpl_tree::{Aggregate, Expr, Factor, NotOperator, Range};
 use std::alloc::Global;
@@ -57,7 +59,7 @@ impl<
         let (quantifier, at) = quantifier(tokens, at)?;
         let (variable, at) = ident(self.alloc, tokens, at)?;
         let at = word(tokens, at, IN)?;
-        let (range, at) = self.range(tokens, at)?;
+        let (range, at) = self.boxed_range(tokens, at)?;
         let (((variable, range), predicate), at) = pair(
             (variable, range),
             self.in_parentheses(tokens, at),
@@ -82,7 +84,8 @@ impl<
         }
         let ((found, elements), at) = pair(found, self.braced(tokens, at))?;
         let kind = qual_in(found);
-        Ok((Factor::Aggregate(Aggregate { kind, elements }), at))
+        let aggregate = Boxed::new(self.alloc, Aggregate { kind, elements })?;
+        Ok((Factor::Aggregate(aggregate), at))
     }
 
     /// An operator that negates, and its factor.

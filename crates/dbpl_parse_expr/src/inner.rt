@@ -48,6 +48,15 @@ impl<
         (self.range)(self.alloc, tokens, at, self.depth)
     }
 
+    /// A range in a box of its own.
+    pub fn boxed_range(&self, tokens: &[Token], at: usize) -> Result<(Boxed<Range>, usize), ReadErr>
+        requires range { ReadsRange self.now.depth (R.pre self.now.range) (R.post self.now.range) }
+        ensures { Reads tokens.now result ((spec.at_depth self.now.depth).range (drop at tokens.now)) }
+    {
+        let (found, at) = self.range(tokens, at)?;
+        Ok((Boxed::new(self.alloc, found)?, at))
+    }
+
     pub fn negated(
         &self,
         tokens: &[Token],

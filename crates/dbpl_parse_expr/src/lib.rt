@@ -19,8 +19,7 @@ mod range;
 mod read_err;
 pub mod sets;
 pub mod tokens;
-pub mod words;
 
-pub use calls::{DEPTH_LIMIT, parse_aggregate, parse_designator, parse_expr, parse_range, placed};
+pub use calls::{parse_aggregate, parse_designator, parse_expr, parse_range, placed};
 pub use parse_err::ParseErr;
 pub use read_err::ReadErr;

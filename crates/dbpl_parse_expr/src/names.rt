@@ -7,7 +7,7 @@ ghost use Rattle.dbpl_parse_expr.specs.Gives.{Reads};
 
 use crate::ReadErr;
 use crate::tokens::{begins_sign, here, name, sign, turns};
-use crate::words::{COMMA, FULL_STOP};
+use dbpl_base::words::{COMMA, FULL_STOP};
 use dbpl_base::{List, Token};
 use dbpl_tree::{Ident, Idents, Qual};
 use std::alloc::Global;

@@ -6,7 +6,7 @@ ghost use Rattle.dbpl_parse_expr.specs.Gives.{Reads};
 
 use crate::ReadErr;
 use crate::tokens::lexeme_at;
-use crate::words::{
+use dbpl_base::words::{
     ALL, AMPERSAND, AND, DIV, EQUALS, GREATER, GREATER_EQUAL, HASH, LESS, LESS_EQUAL, MINUS, MOD,
     NOT, OR, PLUS, SOME, TILDE, TIMES, UNEQUAL,
 };

@@ -8,8 +8,12 @@ ghost use Rattle.dbpl_tree.specs.Words as lexeme;
 use crate::ReadErr;
 use crate::inner::Inner;
 use crate::sets::{begins_expr, begins_ident, begins_negated};
+use crate::tokens::begins_sign;
+use dbpl_base::words::LEFT_PARENTHESIS;
 use dbpl_base::{Place, Token};
-use dbpl_tree::{Aggregate, Arguments, Designator, Expr, Factor, NotOperator, Range};
+use dbpl_tree::{
+    Aggregate, BoxedArguments, BoxedExpr, BoxedRange, Designator, Expr, Factor, NotOperator, Range,
+};
 use std::alloc::Global;
 
 /// Why no phrase stands where no more may stand inside one another.
@@ -87,6 +91,32 @@ fn negated(
     inner.whole_negated(tokens, at)
 }
 
+/// An expression in a box of its own.
+pub fn boxed_expr(
+    alloc: Global,
+    tokens: &[Token],
+    at: usize,
+    depth: u8,
+) -> Result<(BoxedExpr, usize), ReadErr>
+    ensures { Reads tokens.now result ((spec.at_depth depth).expr (drop at tokens.now)) }
+{
+    let (found, at) = expr(alloc, tokens, at, depth)?;
+    Ok((BoxedExpr::new(alloc, found)?, at))
+}
+
+/// A range in a box of its own.
+pub fn boxed_range(
+    alloc: Global,
+    tokens: &[Token],
+    at: usize,
+    depth: u8,
+) -> Result<(BoxedRange, usize), ReadErr>
+    ensures { Reads tokens.now result ((spec.at_depth depth).range (drop at tokens.now)) }
+{
+    let (found, at) = range(alloc, tokens, at, depth)?;
+    Ok((BoxedRange::new(alloc, found)?, at))
+}
+
 /// A designator, in which so many phrases may stand inside one another.
 pub fn designator(
     alloc: Global,
@@ -112,9 +142,12 @@ pub fn optional_arguments(
     tokens: &[Token],
     at: usize,
     depth: u8,
-) -> Result<(Option<Arguments>, usize), ReadErr>
+) -> Result<(Option<BoxedArguments>, usize), ReadErr>
     ensures { Reads tokens.now result (optional (lexeme.left_parenthesis ∷ []) (spec.arguments (spec.at_depth depth).expr) (drop at tokens.now)) }
 {
+    if !begins_sign(tokens, at, LEFT_PARENTHESIS) {
+        return Ok((None, at));
+    }
     let inner = Inner {
         alloc,
         depth,
@@ -122,7 +155,8 @@ pub fn optional_arguments(
         range,
         negated,
     };
-    inner.optional_arguments(tokens, at)
+    let (found, at) = inner.arguments(tokens, at)?;
+    Ok((Some(BoxedArguments::new(alloc, found)?), at))
 }
 
 /// An aggregate, in which so many phrases may stand inside one another.

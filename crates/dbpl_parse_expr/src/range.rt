@@ -9,8 +9,8 @@ use crate::inner::Inner;
 use crate::kinds::{is_qual, qual_in};
 use crate::pair::pair;
 use crate::tokens::begins_sign;
-use crate::words::LEFT_BRACE;
-use dbpl_base::{Place, Token};
+use dbpl_base::words::LEFT_BRACE;
+use dbpl_base::{Boxed, Place, Token};
 use dbpl_tree::{Aggregate, Expr, Factor, NotOperator, Range};
 use std::alloc::Global;
 
@@ -32,6 +32,7 @@ impl<
         }
         let ((found, elements), at) = pair(found, self.braced(tokens, at))?;
         let kind = qual_in(found);
-        Ok((Range::Aggregate(Aggregate { kind, elements }), at))
+        let aggregate = Boxed::new(self.alloc, Aggregate { kind, elements })?;
+        Ok((Range::Aggregate(aggregate), at))
     }
 }

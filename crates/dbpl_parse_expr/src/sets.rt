@@ -4,7 +4,7 @@ ghost use Rattle.dbpl_grammar.specs.Expressions as spec;
 ghost use Rattle.dbpl_grammar.specs.Reading as reading;
 
 use crate::tokens::lexeme_at;
-use crate::words::{
+use dbpl_base::words::{
     ALL, AMPERSAND, AND, DIV, EACH, EQUALS, FULL_STOP, GREATER, GREATER_EQUAL, HASH, LEFT_BRACKET,
     LEFT_PARENTHESIS, LESS, LESS_EQUAL, MINUS, MOD, NOT, OR, PLUS, SOME, TILDE, TIMES, UNEQUAL,
 };

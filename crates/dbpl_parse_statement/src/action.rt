@@ -7,13 +7,13 @@ ghost use Rattle.dbpl_grammar.specs.Statements as spec;
 ghost use Rattle.dbpl_parse_expr.specs.Gives.{Reads};
 
 use crate::sets::begins_change;
+use dbpl_base::words::{ADD, BECOMES, REMOVE, REPLACE};
 use dbpl_base::{Lexeme, Place, Token};
 use dbpl_parse_expr::ReadErr;
 use dbpl_parse_expr::pair::pair;
-use dbpl_parse_expr::phrases::{designator, expr, optional_arguments};
+use dbpl_parse_expr::phrases::{boxed_expr, designator, optional_arguments};
 use dbpl_parse_expr::tokens::{here, lexeme_at};
-use dbpl_parse_expr::words::{ADD, BECOMES, REMOVE, REPLACE};
-use dbpl_tree::{ChangeOperator, Expr, Statement};
+use dbpl_tree::{BoxedExpr, ChangeOperator, Statement};
 use std::alloc::Global;
 
 /// What changes a target.
@@ -36,12 +36,12 @@ fn changed(
     tokens: &[Token],
     at: usize,
     depth: u8,
-) -> Result<((Place, (ChangeOperator, Expr)), usize), ReadErr>
+) -> Result<((Place, (ChangeOperator, BoxedExpr)), usize), ReadErr>
     ensures { Reads tokens.now result ((reading.here ⊗ leaf spec.change_of ⊗ (at_depth depth).expr) (drop at tokens.now)) }
 {
     let place = here(tokens, at)?;
     let (operator, at) = change(tokens, at)?;
-    let (right, at) = expr(alloc, tokens, at, depth)?;
+    let (right, at) = boxed_expr(alloc, tokens, at, depth)?;
     Ok(((place, (operator, right)), at))
 }
 

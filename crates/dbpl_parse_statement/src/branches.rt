@@ -8,19 +8,23 @@ ghost use Rattle.dbpl_parse_statement.specs.Nests.{ReadsStatements};
 ghost use Rattle.dbpl_tree.specs.Words as lexeme;
 
 use crate::body::Body;
-use dbpl_base::{List, Token};
+use dbpl_base::words::{ELSE, ELSIF, END, IF, THEN};
+use dbpl_base::{Boxed, List, Token};
 use dbpl_parse_expr::ReadErr;
 use dbpl_parse_expr::pair::{closing, pair};
-use dbpl_parse_expr::phrases::expr;
+use dbpl_parse_expr::phrases::{boxed_expr, expr};
 use dbpl_parse_expr::tokens::{begins_word, here, turns, word};
-use dbpl_parse_expr::words::{ELSE, ELSIF, END, IF, THEN};
 use dbpl_tree::{Elsif, ElsifOf, Statement, Statements};
 use std::alloc::Global;
 
 impl<S: Fn(Global, &[Token], usize, u8) -> Result<(Statements, usize), ReadErr>> Body<S> {
     /// ELSE and its statements, where it stands.
     #[tactic(auto, unfolding(dbpl_grammar::specs::Statements::otherwise))]
-    fn otherwise(&self, tokens: &[Token], at: usize) -> Result<(Option<Statements>, usize), ReadErr>
+    fn otherwise(
+        &self,
+        tokens: &[Token],
+        at: usize,
+    ) -> Result<(Option<Boxed<Statements>>, usize), ReadErr>
         requires statements { ReadsStatements self.now.depth (S.pre self.now.statements) (S.post self.now.statements) }
         ensures { Reads tokens.now result (spec.otherwise (spec.statements_at self.now.depth) (drop at tokens.now)) }
     {
@@ -29,7 +33,7 @@ impl<S: Fn(Global, &[Token], usize, u8) -> Result<(Statements, usize), ReadErr>>
         }
         let at = word(tokens, at, ELSE)?;
         let (found, at) = self.statements(tokens, at)?;
-        Ok((Some(found), at))
+        Ok((Some(Boxed::new(self.alloc, found)?), at))
     }
 
     /// The branch ELSE, where it stands, up to and with the word END.
@@ -38,7 +42,7 @@ impl<S: Fn(Global, &[Token], usize, u8) -> Result<(Statements, usize), ReadErr>>
         &self,
         tokens: &[Token],
         at: usize,
-    ) -> Result<(Option<Statements>, usize), ReadErr>
+    ) -> Result<(Option<Boxed<Statements>>, usize), ReadErr>
         requires statements { ReadsStatements self.now.depth (S.pre self.now.statements) (S.post self.now.statements) }
         ensures { Reads tokens.now result (closed (spec.otherwise (spec.statements_at self.now.depth)) lexeme.word_end (drop at tokens.now)) }
     {
@@ -85,7 +89,13 @@ impl<S: Fn(Global, &[Token], usize, u8) -> Result<(Statements, usize), ReadErr>>
         &self,
         tokens: &[Token],
         at: usize,
-    ) -> Result<((Statements, (List<Elsif>, Option<Statements>)), usize), ReadErr>
+    ) -> Result<
+        (
+            (Statements, (List<Elsif>, Option<Boxed<Statements>>)),
+            usize,
+        ),
+        ReadErr,
+    >
         requires statements { ReadsStatements self.now.depth (S.pre self.now.statements) (S.post self.now.statements) }
         ensures { Reads tokens.now result ((spec.statements_at self.now.depth ⊗ many (lexeme.word_elsif ∷ []) (spec.elsif (at_depth self.now.depth) (spec.statements_at self.now.depth)) ⊗ closed (spec.otherwise (spec.statements_at self.now.depth)) lexeme.word_end) (drop at tokens.now)) }
     {
@@ -106,7 +116,7 @@ impl<S: Fn(Global, &[Token], usize, u8) -> Result<(Statements, usize), ReadErr>>
     {
         let place = here(tokens, at)?;
         let at = word(tokens, at, IF)?;
-        let (condition, at) = expr(self.alloc, tokens, at, self.depth)?;
+        let (condition, at) = boxed_expr(self.alloc, tokens, at, self.depth)?;
         let (condition, at) = closing(condition, word(tokens, at, THEN))?;
         let ((condition, (body, (elsifs, otherwise))), at) = pair(
             condition,

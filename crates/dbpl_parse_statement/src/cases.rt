@@ -8,14 +8,14 @@ ghost use Rattle.dbpl_parse_statement.specs.Nests.{ReadsStatements};
 ghost use Rattle.dbpl_tree.specs.Words as lexeme;
 
 use crate::body::Body;
-use dbpl_base::{List, Token};
+use dbpl_base::words::{BAR, CASE, COLON, COMMA, ELLIPSIS, OF};
+use dbpl_base::{Boxed, List, Token};
 use dbpl_parse_expr::ReadErr;
 use dbpl_parse_expr::pair::{closing, pair};
-use dbpl_parse_expr::phrases::expr;
+use dbpl_parse_expr::phrases::boxed_expr;
 use dbpl_parse_expr::sets::begins_expr;
 use dbpl_parse_expr::tokens::{begins_sign, here, sign, turns, word};
-use dbpl_parse_expr::words::{BAR, CASE, COLON, COMMA, ELLIPSIS, OF};
-use dbpl_tree::{Case, CaseOf, Expr, Label, Statement, Statements};
+use dbpl_tree::{BoxedExpr, Case, CaseOf, Label, Statement, Statements};
 use std::alloc::Global;
 
 /// The upper end of a label, where it has one.
@@ -24,14 +24,14 @@ fn optional_high(
     tokens: &[Token],
     at: usize,
     depth: u8,
-) -> Result<(Option<Expr>, usize), ReadErr>
+) -> Result<(Option<BoxedExpr>, usize), ReadErr>
     ensures { Reads tokens.now result (optional (lexeme.ellipsis ∷ []) (after lexeme.ellipsis (at_depth depth).expr) (drop at tokens.now)) }
 {
     if !begins_sign(tokens, at, ELLIPSIS) {
         return Ok((None, at));
     }
     let at = sign(tokens, at, ELLIPSIS)?;
-    let (high, at) = expr(alloc, tokens, at, depth)?;
+    let (high, at) = boxed_expr(alloc, tokens, at, depth)?;
     Ok((Some(high), at))
 }
 
@@ -40,7 +40,7 @@ fn optional_high(
 fn label(alloc: Global, tokens: &[Token], at: usize, depth: u8) -> Result<(Label, usize), ReadErr>
     ensures { Reads tokens.now result (spec.label (at_depth depth) (drop at tokens.now)) }
 {
-    let (low, at) = expr(alloc, tokens, at, depth)?;
+    let (low, at) = boxed_expr(alloc, tokens, at, depth)?;
     let ((low, high), at) = pair(low, optional_high(alloc, tokens, at, depth))?;
     Ok((Label { low, high }, at))
 }
@@ -147,11 +147,18 @@ impl<S: Fn(Global, &[Token], usize, u8) -> Result<(Statements, usize), ReadErr>>
         &self,
         tokens: &[Token],
         at: usize,
-    ) -> Result<((Case, (List<Case>, Option<Statements>)), usize), ReadErr>
+    ) -> Result<
+        (
+            (Boxed<Case>, (List<Case>, Option<Boxed<Statements>>)),
+            usize,
+        ),
+        ReadErr,
+    >
         requires statements { ReadsStatements self.now.depth (S.pre self.now.statements) (S.post self.now.statements) }
         ensures { Reads tokens.now result ((spec.case_with (at_depth self.now.depth) (spec.statements_at self.now.depth) ⊗ many (lexeme.bar ∷ []) (after lexeme.bar (spec.case_with (at_depth self.now.depth) (spec.statements_at self.now.depth))) ⊗ closed (spec.otherwise (spec.statements_at self.now.depth)) lexeme.word_end) (drop at tokens.now)) }
     {
         let (first, at) = self.case(tokens, at)?;
+        let first = Boxed::new(self.alloc, first)?;
         let (cases, at) = pair(first, self.other_cases(tokens, at))?;
         let (((first, others), otherwise), at) = pair(cases, self.otherwise_ended(tokens, at))?;
         Ok(((first, (others, otherwise)), at))
@@ -165,7 +172,7 @@ impl<S: Fn(Global, &[Token], usize, u8) -> Result<(Statements, usize), ReadErr>>
     {
         let place = here(tokens, at)?;
         let at = word(tokens, at, CASE)?;
-        let (selector, at) = expr(self.alloc, tokens, at, self.depth)?;
+        let (selector, at) = boxed_expr(self.alloc, tokens, at, self.depth)?;
         let (selector, at) = closing(selector, word(tokens, at, OF))?;
         let ((selector, (first, (others, otherwise))), at) = pair(
             selector,

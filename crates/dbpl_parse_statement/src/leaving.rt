@@ -9,12 +9,12 @@ ghost use Rattle.dbpl_parse_expr.specs.Made.{made};
 ghost use Rattle.dbpl_tree.specs.declared.statement.Statement.TheVariants as statements;
 
 use dbpl_base::Token;
+use dbpl_base::words::{EXIT, RETURN};
 use dbpl_parse_expr::ReadErr;
-use dbpl_parse_expr::phrases::expr;
+use dbpl_parse_expr::phrases::boxed_expr;
 use dbpl_parse_expr::sets::begins_expr;
 use dbpl_parse_expr::tokens::{here, word};
-use dbpl_parse_expr::words::{EXIT, RETURN};
-use dbpl_tree::{Expr, Statement};
+use dbpl_tree::{BoxedExpr, Statement};
 use std::alloc::Global;
 
 /// EXIT.
@@ -33,13 +33,13 @@ fn optional_expr(
     tokens: &[Token],
     at: usize,
     depth: u8,
-) -> Result<(Option<Expr>, usize), ReadErr>
+) -> Result<(Option<BoxedExpr>, usize), ReadErr>
     ensures { Reads tokens.now result (optional expr_first (at_depth depth).expr (drop at tokens.now)) }
 {
     if !begins_expr(tokens, at) {
         return Ok((None, at));
     }
-    let (found, at) = expr(alloc, tokens, at, depth)?;
+    let (found, at) = boxed_expr(alloc, tokens, at, depth)?;
     Ok((Some(found), at))
 }
 

@@ -9,26 +9,26 @@ ghost use Rattle.dbpl_tree.specs.Words as lexeme;
 
 use crate::body::Body;
 use dbpl_base::Token;
+use dbpl_base::words::{DO, LOOP, REPEAT, UNTIL, WHILE};
 use dbpl_parse_expr::ReadErr;
 use dbpl_parse_expr::pair::{closing, pair};
-use dbpl_parse_expr::phrases::expr;
+use dbpl_parse_expr::phrases::boxed_expr;
 use dbpl_parse_expr::tokens::{here, word};
-use dbpl_parse_expr::words::{DO, LOOP, REPEAT, UNTIL, WHILE};
-use dbpl_tree::{Expr, Statement, Statements};
+use dbpl_tree::{BoxedExpr, Statement, Statements};
 use std::alloc::Global;
 
 impl<S: Fn(Global, &[Token], usize, u8) -> Result<(Statements, usize), ReadErr>> Body<S> {
     /// A condition, and the statements between DO and END.
     #[tactic(auto, using(dbpl_parse_expr::proofs::Pairs::pairs))]
-    pub fn guarded(
+    fn guarded(
         &self,
         tokens: &[Token],
         at: usize,
-    ) -> Result<((Expr, Statements), usize), ReadErr>
+    ) -> Result<((BoxedExpr, Statements), usize), ReadErr>
         requires statements { ReadsStatements self.now.depth (S.pre self.now.statements) (S.post self.now.statements) }
         ensures { Reads tokens.now result (((at_depth self.now.depth).expr ⊗ after lexeme.word_do (closed (spec.statements_at self.now.depth) lexeme.word_end)) (drop at tokens.now)) }
     {
-        let (condition, at) = expr(self.alloc, tokens, at, self.depth)?;
+        let (condition, at) = boxed_expr(self.alloc, tokens, at, self.depth)?;
         let (condition, at) = closing(condition, word(tokens, at, DO))?;
         let ((condition, body), at) = pair(condition, self.ended(tokens, at))?;
         Ok(((condition, body), at))
@@ -64,7 +64,7 @@ impl<S: Fn(Global, &[Token], usize, u8) -> Result<(Statements, usize), ReadErr>>
         let at = word(tokens, at, REPEAT)?;
         let (body, at) = self.statements(tokens, at)?;
         let (body, at) = closing(body, word(tokens, at, UNTIL))?;
-        let ((body, condition), at) = pair(body, expr(self.alloc, tokens, at, self.depth))?;
+        let ((body, condition), at) = pair(body, boxed_expr(self.alloc, tokens, at, self.depth))?;
         Ok((Statement::Repeat(place, body, condition), at))
     }
 

@@ -4,12 +4,12 @@ ghost use Rattle.dbpl_grammar.specs.Lexemes.{an_ident};
 ghost use Rattle.dbpl_grammar.specs.Reading as reading;
 ghost use Rattle.dbpl_grammar.specs.Statements as spec;
 
-use dbpl_base::{Lexeme, Token};
-use dbpl_parse_expr::tokens::lexeme_at;
-use dbpl_parse_expr::words::{
+use dbpl_base::words::{
     ADD, BAR, BECOMES, CASE, ELSE, ELSIF, END, EXIT, FOR, IF, LOOP, REMOVE, REPEAT, REPLACE,
     RETURN, SEMICOLON, UNTIL, WHILE,
 };
+use dbpl_base::{Lexeme, Token};
+use dbpl_parse_expr::tokens::lexeme_at;
 
 /// Whether an operator that changes a target is next.
 pub fn begins_change(tokens: &[Token], at: usize) -> bool

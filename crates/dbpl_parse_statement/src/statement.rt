@@ -10,11 +10,11 @@ ghost use Rattle.dbpl_tree.specs.Words as lexeme;
 use crate::action::action;
 use crate::body::Body;
 use crate::leaving::{empty_statement, exit_statement, return_statement};
+use dbpl_base::words::{CASE, EXIT, FOR, IF, LOOP, REPEAT, RETURN, SEMICOLON, WHILE};
 use dbpl_base::{Boxed, Lexeme, List, Token};
 use dbpl_parse_expr::ReadErr;
 use dbpl_parse_expr::pair::pair;
 use dbpl_parse_expr::tokens::{begins_sign, lexeme_at, sign, turns};
-use dbpl_parse_expr::words::{CASE, EXIT, FOR, IF, LOOP, REPEAT, RETURN, SEMICOLON, WHILE};
 use dbpl_tree::{Statement, Statements, StatementsOf};
 use std::alloc::Global;
 

@@ -7,10 +7,11 @@ ghost use Rattle.dbpl_parse_type.specs.NestedTypes.{ReadsType};
 ghost use Rattle.dbpl_tree.specs.Words as lexeme;
 
 use crate::inner::InnerType;
-use dbpl_base::{Boxed, List, Token};
+use dbpl_base::words::{ARRAY, COMMA, OF};
+use dbpl_base::{List, Token};
 use dbpl_parse_expr::ReadErr;
+use dbpl_parse_expr::pair::{closing, pair};
 use dbpl_parse_expr::tokens::{begins_sign, here, sign, turns, word};
-use dbpl_parse_expr::words::{ARRAY, COMMA, OF};
 use dbpl_tree::TypeTree;
 use std::alloc::Global;
 
@@ -44,19 +45,17 @@ impl<T: Fn(Global, &[Token], usize, u8) -> Result<(TypeTree, usize), ReadErr>> I
     }
 
     /// A type of arrays.
-    #[tactic(auto, unfolding(dbpl_grammar::specs::Types::array))]
+    #[tactic(auto, using(dbpl_parse_expr::proofs::Pairs::pairs), unfolding(dbpl_grammar::specs::Types::array))]
     pub fn array(&self, tokens: &[Token], at: usize) -> Result<(TypeTree, usize), ReadErr>
         requires type_tree { ReadsType self.now.depth (T.pre self.now.type_tree) (T.post self.now.type_tree) }
         ensures { Reads tokens.now result (spec.array (spec.type_at self.now.depth) (drop at tokens.now)) }
     {
         let place = here(tokens, at)?;
         let at = word(tokens, at, ARRAY)?;
-        let (first, at) = self.type_tree(tokens, at)?;
-        let (others, at) = self.other_indices(tokens, at)?;
-        let at = word(tokens, at, OF)?;
-        let (element, at) = self.type_tree(tokens, at)?;
-        let first = Boxed::new(self.alloc, first)?;
-        let element = Boxed::new(self.alloc, element)?;
+        let (first, at) = self.boxed_type(tokens, at)?;
+        let (indices, at) = pair(first, self.other_indices(tokens, at))?;
+        let (indices, at) = closing(indices, word(tokens, at, OF))?;
+        let (((first, others), element), at) = pair(indices, self.boxed_type(tokens, at))?;
         Ok((TypeTree::Array(place, first, others, element), at))
     }
 }

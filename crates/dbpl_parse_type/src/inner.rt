@@ -4,7 +4,7 @@ ghost use Rattle.dbpl_grammar.specs.Types as spec;
 ghost use Rattle.dbpl_parse_expr.specs.Gives.{Reads};
 ghost use Rattle.dbpl_parse_type.specs.NestedTypes.{ReadsType};
 
-use dbpl_base::Token;
+use dbpl_base::{Boxed, Token};
 use dbpl_parse_expr::ReadErr;
 use dbpl_tree::TypeTree;
 use std::alloc::Global;
@@ -23,5 +23,18 @@ impl<T: Fn(Global, &[Token], usize, u8) -> Result<(TypeTree, usize), ReadErr>> I
         ensures { Reads tokens.now result (spec.type_at self.now.depth (drop at tokens.now)) }
     {
         (self.type_tree)(self.alloc, tokens, at, self.depth)
+    }
+
+    /// A type in a box of its own.
+    pub fn boxed_type(
+        &self,
+        tokens: &[Token],
+        at: usize,
+    ) -> Result<(Boxed<TypeTree>, usize), ReadErr>
+        requires type_tree { ReadsType self.now.depth (T.pre self.now.type_tree) (T.post self.now.type_tree) }
+        ensures { Reads tokens.now result (spec.type_at self.now.depth (drop at tokens.now)) }
+    {
+        let (found, at) = self.type_tree(tokens, at)?;
+        Ok((Boxed::new(self.alloc, found)?, at))
     }
 }

@@ -9,54 +9,57 @@ ghost use Rattle.dbpl_tree.specs.Words as lexeme;
 ghost use Rattle.dbpl_tree.specs.declared.type_tree.TypeTree.TheVariants as types;
 
 use dbpl_base::Token;
-use dbpl_parse_expr::ReadErr;
-use dbpl_parse_expr::names::{idents, qual};
-use dbpl_parse_expr::phrases::expr;
-use dbpl_parse_expr::tokens::{here, sign, word};
-use dbpl_parse_expr::words::{
+use dbpl_base::words::{
     ELLIPSIS, LEFT_BRACKET, LEFT_PARENTHESIS, OF, RELATION, RIGHT_BRACKET, RIGHT_PARENTHESIS,
 };
-use dbpl_tree::{Expr, TypeTree};
+use dbpl_parse_expr::ReadErr;
+use dbpl_parse_expr::names::{idents, qual};
+use dbpl_parse_expr::pair::{closing, pair};
+use dbpl_parse_expr::phrases::boxed_expr;
+use dbpl_parse_expr::tokens::{here, sign, word};
+use dbpl_tree::{BoxedExpr, TypeTree};
 use std::alloc::Global;
 
 /// A type whose values are listed by name.
-#[tactic(auto, unfolding(dbpl_grammar::specs::Types::enumeration))]
+#[tactic(auto, using(dbpl_parse_expr::proofs::Pairs::pairs), unfolding(dbpl_grammar::specs::Types::enumeration))]
 pub fn enumeration(alloc: Global, tokens: &[Token], at: usize) -> Result<(TypeTree, usize), ReadErr>
     ensures { Reads tokens.now result (spec.enumeration (drop at tokens.now)) }
 {
     let place = here(tokens, at)?;
     let at = sign(tokens, at, LEFT_PARENTHESIS)?;
     let (names, at) = idents(alloc, tokens, at)?;
-    let at = sign(tokens, at, RIGHT_PARENTHESIS)?;
+    let (names, at) = closing(names, sign(tokens, at, RIGHT_PARENTHESIS))?;
     Ok((TypeTree::Enumeration(place, names), at))
 }
 
 /// What stands behind the lower bound of a subrange, with the upper one.
+#[tactic(auto, using(dbpl_parse_expr::proofs::Pairs::pairs))]
 fn upper_bound(
     alloc: Global,
     tokens: &[Token],
     at: usize,
     depth: u8,
-) -> Result<(Expr, usize), ReadErr>
+) -> Result<(BoxedExpr, usize), ReadErr>
     ensures { Reads tokens.now result (after lexeme.ellipsis (closed (at_depth depth).expr lexeme.right_bracket) (drop at tokens.now)) }
 {
     let at = sign(tokens, at, ELLIPSIS)?;
-    let (high, at) = expr(alloc, tokens, at, depth)?;
-    let at = sign(tokens, at, RIGHT_BRACKET)?;
+    let (high, at) = boxed_expr(alloc, tokens, at, depth)?;
+    let (high, at) = closing(high, sign(tokens, at, RIGHT_BRACKET))?;
     Ok((high, at))
 }
 
 /// The bounds of a subrange, and its closing bracket.
+#[tactic(auto, using(dbpl_parse_expr::proofs::Pairs::pairs))]
 fn bounds(
     alloc: Global,
     tokens: &[Token],
     at: usize,
     depth: u8,
-) -> Result<((Expr, Expr), usize), ReadErr>
+) -> Result<((BoxedExpr, BoxedExpr), usize), ReadErr>
     ensures { Reads tokens.now result (((at_depth depth).expr ⊗ after lexeme.ellipsis (closed (at_depth depth).expr lexeme.right_bracket)) (drop at tokens.now)) }
 {
-    let (low, at) = expr(alloc, tokens, at, depth)?;
-    let (high, at) = upper_bound(alloc, tokens, at, depth)?;
+    let (low, at) = boxed_expr(alloc, tokens, at, depth)?;
+    let ((low, high), at) = pair(low, upper_bound(alloc, tokens, at, depth))?;
     Ok(((low, high), at))
 }
 
@@ -77,7 +80,7 @@ pub fn subrange(
 }
 
 /// A type of relations: the fields of its key, and the type of its records.
-#[tactic(auto, unfolding(dbpl_grammar::specs::Types::relation_type))]
+#[tactic(auto, using(dbpl_parse_expr::proofs::Pairs::pairs), unfolding(dbpl_grammar::specs::Types::relation_type))]
 pub fn relation_type(
     alloc: Global,
     tokens: &[Token],
@@ -88,8 +91,8 @@ pub fn relation_type(
     let place = here(tokens, at)?;
     let at = word(tokens, at, RELATION)?;
     let (keys, at) = idents(alloc, tokens, at)?;
-    let at = word(tokens, at, OF)?;
-    let (element, at) = qual(alloc, tokens, at)?;
+    let (keys, at) = closing(keys, word(tokens, at, OF))?;
+    let ((keys, element), at) = pair(keys, qual(alloc, tokens, at))?;
     Ok((TypeTree::Relation(place, keys, element), at))
 }
 

@@ -7,18 +7,19 @@ ghost use Rattle.dbpl_parse_type.specs.NestedTypes.{ReadsType};
 ghost use Rattle.dbpl_tree.specs.Words as lexeme;
 
 use crate::inner::InnerType;
-use dbpl_base::{Boxed, List, Token};
+use dbpl_base::words::{COLON, END, RECORD, SEMICOLON};
+use dbpl_base::{List, Token};
 use dbpl_parse_expr::ReadErr;
 use dbpl_parse_expr::names::idents;
+use dbpl_parse_expr::pair::{closing, pair};
 use dbpl_parse_expr::sets::begins_ident;
 use dbpl_parse_expr::tokens::{begins_sign, here, sign, turns, word};
-use dbpl_parse_expr::words::{COLON, END, RECORD, SEMICOLON};
 use dbpl_tree::{Fields, FieldsOf, TypeTree};
 use std::alloc::Global;
 
 impl<T: Fn(Global, &[Token], usize, u8) -> Result<(TypeTree, usize), ReadErr>> InnerType<T> {
     /// The fields of one type, or nothing.
-    #[tactic(auto, unfolding(dbpl_grammar::specs::Types::fields))]
+    #[tactic(auto, using(dbpl_parse_expr::proofs::Pairs::pairs), unfolding(dbpl_grammar::specs::Types::fields))]
     fn fields(&self, tokens: &[Token], at: usize) -> Result<(Fields, usize), ReadErr>
         requires type_tree { ReadsType self.now.depth (T.pre self.now.type_tree) (T.post self.now.type_tree) }
         ensures { Reads tokens.now result (spec.fields (spec.type_at self.now.depth) (drop at tokens.now)) }
@@ -28,9 +29,8 @@ impl<T: Fn(Global, &[Token], usize, u8) -> Result<(TypeTree, usize), ReadErr>> I
             return Ok((FieldsOf::Empty(place), at));
         }
         let (names, at) = idents(self.alloc, tokens, at)?;
-        let at = sign(tokens, at, COLON)?;
-        let (type_tree, at) = self.type_tree(tokens, at)?;
-        let type_tree = Boxed::new(self.alloc, type_tree)?;
+        let (names, at) = closing(names, sign(tokens, at, COLON))?;
+        let ((names, type_tree), at) = pair(names, self.boxed_type(tokens, at))?;
         Ok((FieldsOf::Fields(names, type_tree), at))
     }
 
@@ -63,7 +63,7 @@ impl<T: Fn(Global, &[Token], usize, u8) -> Result<(TypeTree, usize), ReadErr>> I
     }
 
     /// A type of records.
-    #[tactic(auto, unfolding(dbpl_grammar::specs::Types::record_type))]
+    #[tactic(auto, using(dbpl_parse_expr::proofs::Pairs::pairs), unfolding(dbpl_grammar::specs::Types::record_type))]
     pub fn record_type(&self, tokens: &[Token], at: usize) -> Result<(TypeTree, usize), ReadErr>
         requires type_tree { ReadsType self.now.depth (T.pre self.now.type_tree) (T.post self.now.type_tree) }
         ensures { Reads tokens.now result (spec.record_type (spec.type_at self.now.depth) (drop at tokens.now)) }
@@ -71,8 +71,8 @@ impl<T: Fn(Global, &[Token], usize, u8) -> Result<(TypeTree, usize), ReadErr>> I
         let place = here(tokens, at)?;
         let at = word(tokens, at, RECORD)?;
         let (first, at) = self.fields(tokens, at)?;
-        let (others, at) = self.other_fields(tokens, at)?;
-        let at = word(tokens, at, END)?;
+        let (found, at) = pair(first, self.other_fields(tokens, at))?;
+        let ((first, others), at) = closing(found, word(tokens, at, END))?;
         Ok((TypeTree::Record(place, first, others), at))
     }
 }

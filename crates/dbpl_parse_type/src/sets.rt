@@ -3,9 +3,9 @@ ghost use Rattle.std.specs.Prelude.{◌≡◌, drop};
 ghost use Rattle.dbpl_grammar.specs.Reading as reading;
 ghost use Rattle.dbpl_grammar.specs.Types as spec;
 
+use dbpl_base::words::{ARRAY, LEFT_BRACKET, LEFT_PARENTHESIS, RECORD, RELATION};
 use dbpl_base::{Lexeme, Token};
 use dbpl_parse_expr::tokens::lexeme_at;
-use dbpl_parse_expr::words::{ARRAY, LEFT_BRACKET, LEFT_PARENTHESIS, RECORD, RELATION};
 
 /// Whether a type may begin with the next token.
 pub fn begins_type(tokens: &[Token], at: usize) -> bool

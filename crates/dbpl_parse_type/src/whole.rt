@@ -7,10 +7,10 @@ ghost use Rattle.dbpl_parse_type.specs.NestedTypes.{ReadsType};
 
 use crate::inner::InnerType;
 use crate::plain::{enumeration, named_type, relation_type, subrange};
+use dbpl_base::words::{ARRAY, LEFT_BRACKET, LEFT_PARENTHESIS, RECORD, RELATION};
 use dbpl_base::{Lexeme, Token};
 use dbpl_parse_expr::ReadErr;
 use dbpl_parse_expr::tokens::lexeme_at;
-use dbpl_parse_expr::words::{ARRAY, LEFT_BRACKET, LEFT_PARENTHESIS, RECORD, RELATION};
 use dbpl_tree::TypeTree;
 use std::alloc::Global;
 

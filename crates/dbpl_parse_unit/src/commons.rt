@@ -9,14 +9,14 @@ ghost use Rattle.dbpl_tree.specs.Words as lexeme;
 use crate::headings::optional_params;
 use crate::plain::plain_decl;
 use crate::sets::begins_common;
+use dbpl_base::words::{COLON, CONSTRUCTOR, FOR, IN, SELECTOR, SEMICOLON};
 use dbpl_base::{List, Token};
 use dbpl_parse_expr::ReadErr;
 use dbpl_parse_expr::names::{ident, qual};
 use dbpl_parse_expr::pair::{closing, pair};
-use dbpl_parse_expr::phrases::{aggregate, expr};
+use dbpl_parse_expr::phrases::{aggregate, boxed_expr};
 use dbpl_parse_expr::tokens::{begins_word, here, sign, turns, word};
-use dbpl_parse_expr::words::{COLON, CONSTRUCTOR, FOR, IN, SELECTOR, SEMICOLON};
-use dbpl_tree::{Aggregate, Common, Expr, Ident, Qual};
+use dbpl_tree::{Aggregate, BoxedExpr, Common, Ident, Qual};
 use std::alloc::Global;
 
 /// A colon, what is to hold, and a semicolon.
@@ -26,11 +26,11 @@ fn predicate(
     tokens: &[Token],
     at: usize,
     depth: u8,
-) -> Result<(Expr, usize), ReadErr>
+) -> Result<(BoxedExpr, usize), ReadErr>
     ensures { Reads tokens.now result (after lexeme.colon (closed (at_depth depth).expr lexeme.semicolon) (drop at tokens.now)) }
 {
     let at = sign(tokens, at, COLON)?;
-    let (found, at) = expr(alloc, tokens, at, depth)?;
+    let (found, at) = boxed_expr(alloc, tokens, at, depth)?;
     let (found, at) = closing(found, sign(tokens, at, SEMICOLON))?;
     Ok((found, at))
 }
@@ -42,7 +42,7 @@ fn selected(
     tokens: &[Token],
     at: usize,
     depth: u8,
-) -> Result<((Ident, (Qual, Expr)), usize), ReadErr>
+) -> Result<((Ident, (Qual, BoxedExpr)), usize), ReadErr>
     ensures { Reads tokens.now result (after lexeme.word_for (ident ⊗ after lexeme.word_in (qual ⊗ after lexeme.colon (closed (at_depth depth).expr lexeme.semicolon))) (drop at tokens.now)) }
 {
     let at = word(tokens, at, FOR)?;

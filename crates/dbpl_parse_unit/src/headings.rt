@@ -7,15 +7,15 @@ ghost use Rattle.dbpl_parse_expr.specs.Gives.{Reads};
 ghost use Rattle.dbpl_tree.specs.Words as lexeme;
 
 use crate::sets::begins_section;
+use dbpl_base::words::{
+    COLON, LEFT_PARENTHESIS, PROCEDURE, RIGHT_PARENTHESIS, SEMICOLON, TRANSACTION, VAR,
+};
 use dbpl_base::{Lexeme, List, Token};
 use dbpl_parse_expr::ReadErr;
 use dbpl_parse_expr::lists::all_of;
 use dbpl_parse_expr::names::{ident, idents, qual};
 use dbpl_parse_expr::pair::{closing, pair};
 use dbpl_parse_expr::tokens::{begins_sign, begins_word, here, lexeme_at, sign, turns, word};
-use dbpl_parse_expr::words::{
-    COLON, LEFT_PARENTHESIS, PROCEDURE, RIGHT_PARENTHESIS, SEMICOLON, TRANSACTION, VAR,
-};
 use dbpl_tree::{Heading, Params, Qual, RoutineWord, Section, Signature};
 use std::alloc::Global;
 

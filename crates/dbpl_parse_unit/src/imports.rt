@@ -7,12 +7,12 @@ ghost use Rattle.dbpl_parse_expr.specs.Gives.{Reads};
 ghost use Rattle.dbpl_tree.specs.Words as lexeme;
 
 use crate::sets::begins_import;
+use dbpl_base::words::{FROM, IMPORT, SEMICOLON};
 use dbpl_base::{List, Token};
 use dbpl_parse_expr::ReadErr;
 use dbpl_parse_expr::names::{ident, idents};
 use dbpl_parse_expr::pair::{closing, pair};
 use dbpl_parse_expr::tokens::{begins_word, here, sign, turns, word};
-use dbpl_parse_expr::words::{FROM, IMPORT, SEMICOLON};
 use dbpl_tree::{Idents, Import};
 use std::alloc::Global;
 

@@ -9,12 +9,12 @@ ghost use Rattle.dbpl_tree.specs.Words as lexeme;
 use crate::commons::commons;
 use crate::imports::imports;
 use crate::routines::{body, decls, definition_items};
+use dbpl_base::words::{DATABASE, DEFINITION, END, FULL_STOP, MODULE, SEMICOLON};
 use dbpl_base::{List, Token};
 use dbpl_parse_expr::ReadErr;
 use dbpl_parse_expr::names::ident;
 use dbpl_parse_expr::pair::{closing, pair};
 use dbpl_parse_expr::tokens::{here, sign, word};
-use dbpl_parse_expr::words::{DATABASE, DEFINITION, END, FULL_STOP, MODULE, SEMICOLON};
 use dbpl_tree::{
     Common, DataUnit, Decl, DefinitionItem, DefinitionUnit, Ident, Import, Program, Statements,
 };

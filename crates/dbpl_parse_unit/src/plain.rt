@@ -8,6 +8,7 @@ ghost use Rattle.dbpl_parse_expr.specs.Gives.{Reads};
 ghost use Rattle.dbpl_tree.specs.Words as lexeme;
 
 use crate::sets::begins_plain;
+use dbpl_base::words::{COLON, CONST, EQUALS, SEMICOLON, TYPE, VAR};
 use dbpl_base::{List, Token};
 use dbpl_parse_expr::ReadErr;
 use dbpl_parse_expr::names::{ident, idents};
@@ -15,7 +16,6 @@ use dbpl_parse_expr::pair::{closing, pair};
 use dbpl_parse_expr::phrases::expr;
 use dbpl_parse_expr::sets::begins_ident;
 use dbpl_parse_expr::tokens::{begins_word, here, sign, turns, word};
-use dbpl_parse_expr::words::{COLON, CONST, EQUALS, SEMICOLON, TYPE, VAR};
 use dbpl_parse_type::type_tree;
 use dbpl_tree::{ConstDecl, Expr, PlainDecl, TypeDecl, TypeTree, VarDecl};
 use std::alloc::Global;

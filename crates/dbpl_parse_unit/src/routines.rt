@@ -12,12 +12,12 @@ use crate::commons::common;
 use crate::headings::heading;
 use crate::plain::plain_decls;
 use crate::sets::{begins_decl, begins_routine};
-use dbpl_base::{List, Place, Token};
+use dbpl_base::words::{BEGIN, END, SEMICOLON};
+use dbpl_base::{Boxed, List, Place, Token};
 use dbpl_parse_expr::ReadErr;
 use dbpl_parse_expr::names::ident;
 use dbpl_parse_expr::pair::{closing, pair};
 use dbpl_parse_expr::tokens::{begins_word, here, sign, turns, word};
-use dbpl_parse_expr::words::{BEGIN, END, SEMICOLON};
 use dbpl_parse_statement::statements;
 use dbpl_tree::{Decl, DefinitionItem, Heading, Ident, PlainDecl, Routine, Statements};
 use std::alloc::Global;
@@ -136,7 +136,7 @@ fn decl(alloc: Global, tokens: &[Token], at: usize, depth: u8) -> Result<(Decl, 
 {
     if begins_routine(tokens, at) {
         let (found, at) = routine(alloc, tokens, at, depth)?;
-        return Ok((Decl::Routine(found), at));
+        return Ok((Decl::Routine(Boxed::new(alloc, found)?), at));
     }
     let (found, at) = common(alloc, tokens, at, depth)?;
     Ok((Decl::Common(found), at))

@@ -3,11 +3,11 @@ ghost use Rattle.std.specs.Prelude.{◌≡◌, drop};
 ghost use Rattle.dbpl_grammar.specs.Reading as reading;
 ghost use Rattle.dbpl_grammar.specs.Units as spec;
 
-use dbpl_base::{Lexeme, Token};
-use dbpl_parse_expr::tokens::lexeme_at;
-use dbpl_parse_expr::words::{
+use dbpl_base::words::{
     CONST, CONSTRUCTOR, FROM, IMPORT, PROCEDURE, SELECTOR, TRANSACTION, TYPE, VAR,
 };
+use dbpl_base::{Lexeme, Token};
+use dbpl_parse_expr::tokens::lexeme_at;
 
 /// Whether a section of parameters is next.
 pub fn begins_section(tokens: &[Token], at: usize) -> bool

@@ -6,10 +6,11 @@ ghost use Rattle.dbpl_grammar.specs.Units as spec;
 ghost use Rattle.dbpl_parse_expr.specs.Gives.{Gives, Leads};
 
 use crate::units::unit;
+use dbpl_base::limits::PHRASE_DEPTH;
 use dbpl_base::{Lexeme, Token};
+use dbpl_parse_expr::ReadErr;
 use dbpl_parse_expr::pair::closing;
 use dbpl_parse_expr::tokens::lexeme_at;
-use dbpl_parse_expr::{DEPTH_LIMIT, ReadErr};
 use dbpl_tree::Unit;
 use std::alloc::Global;
 
@@ -38,7 +39,7 @@ fn at_end(tokens: &[Token], found: Unit, at: usize) -> Result<Unit, ReadErr>
 pub fn whole_unit(alloc: Global, tokens: &[Token]) -> Result<Unit, ReadErr>
     ensures { Gives (λ unit. unit) tokens.now result (spec.whole_unit spec.depth_limit tokens.now) }
 {
-    let (found, at) = unit(alloc, tokens, 0, DEPTH_LIMIT)?;
+    let (found, at) = unit(alloc, tokens, 0, PHRASE_DEPTH)?;
     let (found, at) = closing(found, finish(tokens, at))?;
     at_end(tokens, found, at)
 }

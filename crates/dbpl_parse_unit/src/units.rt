@@ -5,9 +5,9 @@ ghost use Rattle.dbpl_parse_expr.specs.Gives.{Reads};
 
 use crate::modules::{data_unit, definition_unit, program};
 use dbpl_base::Token;
+use dbpl_base::words::{DEFINITION, IMPLEMENTATION, MODULE};
 use dbpl_parse_expr::ReadErr;
 use dbpl_parse_expr::tokens::{begins_word, here, word};
-use dbpl_parse_expr::words::{DEFINITION, IMPLEMENTATION, MODULE};
 use dbpl_tree::Unit;
 use std::alloc::Global;
 

@@ -1,11 +1,14 @@
 //! Tries texts on the scanner, the parser and the copies of trees. Each line of the input is an answer, a tabulator and
 //! a text; lines without a tabulator are headings. The answer is `ok`, or a rule and the column at which the text breaks
-//! it. Prints each line that is answered otherwise, and in the end how many there were.
+//! it. Before it may stand what phrase the text begins with, as `expr`; then `ok` has the column at which the text goes
+//! on behind the phrase. Prints each line that is answered otherwise, and in the end how many there were.
 #![tactic(auto)]
 
 mod answer;
+mod kind;
 
 use answer::{Answer, answer_to};
+use kind::asked;
 use std::alloc::Global;
 use std::io;
 
@@ -19,8 +22,9 @@ fn main(rt: HostRuntime) -> io::Result<()> {
             continue;
         };
         tried = tried.saturating_add(1);
-        let answer = answer_to(alloc, text);
-        if !is_expected(alloc, &answer, expected)? {
+        let (kind, wanted) = asked(expected);
+        let answer = answer_to(alloc, kind, text);
+        if !is_expected(alloc, &answer, wanted)? {
             differing = differing.saturating_add(1);
             println!(rt; "{answer} in place of {expected}: {text}")?;
         }

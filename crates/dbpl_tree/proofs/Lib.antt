@@ -1,8 +1,11 @@
 pub mod Depths
 pub mod Examples
+pub mod FirstTokens
+pub mod Folds
 pub mod Levels
 pub mod Lexemes
 pub mod Mapped
+pub mod PlaceExamples
 pub mod StatementLevels
 pub mod UnitExamples
 pub mod WordExamples

@@ -1,10 +1,10 @@
--- What a map of the factors makes of an expression, and that its marks and its depth are then those by the map.
--- Where a phrase may be absent or has alternatives, the map is known by what it makes of each.
-use Rattle.std.proofs.Common.{◌≡◌, ℕ, suc, max, List, [], ◌∷◌, ◌++◌, Option, Some, None, map, refl, ap, ◌∙◌}
+-- The marks and the depth of a phrase with other things in place of the factors in it are those by way of what makes them.
+use Rattle.std.proofs.Common.{◌≡◌, ℕ, suc, max, List, [], ◌∷◌, ◌++◌, Option, Some, None, map, refl}
 use Rattle.std.specs.List.{flat_map}
-use Rattle.dbpl_base.specs.declared.place.Place.{Place}
-use Rattle.dbpl_tree.specs.Depths.{added_depth, arguments_depth, designator_depth, expr_depth, exprs_depth, greatest, multiplied_depth, option_depth, part_depth, simple_depth, term_depth}
+use Rattle.std.specs.Prelude.{option_map}
+use Rattle.dbpl_tree.specs.Depths.{added_depth, arguments_depth, compared_depth, designator_depth, expr_depth, exprs_depth, greatest, multiplied_depth, option_depth, part_depth, simple_depth, term_depth}
 use Rattle.dbpl_tree.specs.Expressions.{added_marks, arguments_marks, compared_marks, designator_marks, expr_marks, exprs_marks, multiplied_marks, part_marks, simple_marks, term_marks}
+use Rattle.dbpl_tree.specs.Maps.{added_with, arguments_with, compared_with, designator_with, expr_with, exprs_with, multiplied_with, part_with, simple_with, term_with}
 use Rattle.dbpl_tree.specs.Marks.{Mark, Of, Before, option_marks}
 use Rattle.dbpl_tree.specs.Names.{ident_marks}
 use Rattle.dbpl_tree.specs.Operators.{adding_lexeme, relation_lexeme, sign_lexeme}
@@ -16,10 +16,8 @@ use Rattle.dbpl_tree.specs.declared.designator.PartOf.TheVariants as parts
 use Rattle.dbpl_tree.specs.declared.expr.ComparedOf.{ComparedOf}
 use Rattle.dbpl_tree.specs.declared.expr.ExprOf.{ExprOf}
 use Rattle.dbpl_tree.specs.declared.expr.ExprsOf.{ExprsOf}
-use Rattle.dbpl_tree.specs.declared.ident.Ident.{Ident}
 use Rattle.dbpl_tree.specs.declared.simple.AddedOf.{AddedOf}
 use Rattle.dbpl_tree.specs.declared.simple.SimpleOf.{SimpleOf}
-use Rattle.dbpl_tree.specs.declared.term.MultipliedOf.{MultipliedOf}
 use Rattle.dbpl_tree.specs.declared.term.TermOf.{TermOf}
 
 -- ---- lists
@@ -37,138 +35,64 @@ greatest-map f g h e [] = refl
 greatest-map f g h e (x ∷ xs) = λ i. max (e x i) (greatest-map f g h e xs i)
 
 module _ {F G : Type 0} (w : F → G) where
-  -- ---- the maps
-
-  abbrev pub multiplied_with : MultipliedOf F → MultipliedOf G
-  multiplied_with m = record { place = m.place; operator = m.operator; factor = w m.factor }
-
-  abbrev pub term_with : TermOf F → TermOf G
-  term_with t = record { place = t.place; first = w t.first; others = map multiplied_with t.others }
-
-  abbrev pub added_with : AddedOf F → AddedOf G
-  added_with a = record { place = a.place; operator = a.operator; term = term_with a.term }
-
-  abbrev pub simple_with : SimpleOf F → SimpleOf G
-  simple_with s =
-      record { place = s.place; sign = s.sign; first = term_with s.first; others = map added_with s.others }
-
-  abbrev pub compared_with : ComparedOf F → ComparedOf G
-  compared_with c = record { place = c.place; relation = c.relation; right = simple_with c.right }
-
-  pub record MapsExpr (m : ExprOf F → ExprOf G) : Type 0 where
-    pub bare :
-        (place : Place) (left : SimpleOf F) →
-        m (record { place = place; left = left; right = None })
-        ≡ record { place = place; left = simple_with left; right = None }
-    pub compared :
-        (place : Place) (left : SimpleOf F) (c : ComparedOf F) →
-        m (record { place = place; left = left; right = Some c })
-        ≡ record { place = place; left = simple_with left; right = Some (compared_with c) }
-
-  pub record MapsExprs (m : ExprsOf F → ExprsOf G) : Type 0 where
-    pub of_first : ExprOf F → ExprOf G
-    pub of_other : ExprOf F → ExprOf G
-    pub maps_first : MapsExpr of_first
-    pub maps_other : MapsExpr of_other
-    pub made : (es : ExprsOf F) → m es ≡ record { first = of_first es.first; others = map of_other es.others }
-
-  pub record MapsPart (m : PartOf F → PartOf G) : Type 0 where
-    pub of_exprs : ExprsOf F → ExprsOf G
-    pub maps_exprs : MapsExprs of_exprs
-    pub field : (x : Ident) → m (parts.Field x) ≡ parts.Field x
-    pub subscripts :
-        (place : Place) (es : ExprsOf F) → m (parts.Subscripts place es) ≡ parts.Subscripts place (of_exprs es)
-
-  pub record MapsDesignator (m : DesignatorOf F → DesignatorOf G) : Type 0 where
-    pub of_part : PartOf F → PartOf G
-    pub maps_part : MapsPart of_part
-    pub made : (d : DesignatorOf F) → m d ≡ record { head = d.head; parts = map of_part d.parts }
-
-  pub record MapsArguments (m : Option (ArgumentsOf F) → Option (ArgumentsOf G)) : Type 0 where
-    pub of_exprs : ExprsOf F → ExprsOf G
-    pub maps_exprs : MapsExprs of_exprs
-    pub absent : m None ≡ None
-    pub bare :
-        (place : Place) → m (Some (record { place = place; exprs = None })) ≡ Some (record { place = place; exprs = None })
-    pub listed :
-        (place : Place) (es : ExprsOf F) →
-        m (Some (record { place = place; exprs = Some es })) ≡ Some (record { place = place; exprs = Some (of_exprs es) })
-
   -- ---- marks
 
   module _ (v : G → List Mark) where
     abbrev by_map : F → List Mark
     by_map x = v (w x)
 
-    pub term-marks : (t : TermOf F) → term_marks v (term_with t) ≡ term_marks by_map t
+    pub term-marks : (t : TermOf F) → term_marks v (term_with w t) ≡ term_marks by_map t
     term-marks t =
         λ i. Before t.place ∷
         (v (w t.first) ++
-        marks-map (multiplied_marks v) multiplied_with (multiplied_marks by_map) (λ m. refl) t.others i)
+        marks-map (multiplied_marks v) (multiplied_with w) (multiplied_marks by_map) (λ m. refl) t.others i)
 
-    pub added-marks : (a : AddedOf F) → added_marks v (added_with a) ≡ added_marks by_map a
+    pub added-marks : (a : AddedOf F) → added_marks v (added_with w a) ≡ added_marks by_map a
     added-marks a = λ i. Before a.place ∷ Of (adding_lexeme a.operator) ∷ term-marks a.term i
 
-    pub simple-marks : (s : SimpleOf F) → simple_marks v (simple_with s) ≡ simple_marks by_map s
+    pub simple-marks : (s : SimpleOf F) → simple_marks v (simple_with w s) ≡ simple_marks by_map s
     simple-marks s =
         λ i. Before s.place ∷
         (option_marks (λ sign. Of (sign_lexeme sign) ∷ []) s.sign ++
-        (term-marks s.first i ++ marks-map (added_marks v) added_with (added_marks by_map) added-marks s.others i))
+        (term-marks s.first i ++
+        marks-map (added_marks v) (added_with w) (added_marks by_map) added-marks s.others i))
 
-    pub compared-marks : (c : ComparedOf F) → compared_marks v (compared_with c) ≡ compared_marks by_map c
-    compared-marks c = λ i. Before c.place ∷ Of (relation_lexeme c.relation) ∷ simple-marks c.right i
+    right-marks :
+        (right : Option (ComparedOf F)) →
+        option_marks (compared_marks v) (option_map (compared_with w) right) ≡ option_marks (compared_marks by_map) right
+    right-marks None = refl
+    right-marks (Some c) = λ i. Before c.place ∷ Of (relation_lexeme c.relation) ∷ simple-marks c.right i
 
-    expr-marks-of :
-        {m : ExprOf F → ExprOf G} → MapsExpr m → (place : Place) (left : SimpleOf F) (right : Option (ComparedOf F)) →
-        expr_marks v (m (record { place = place; left = left; right = right }))
-        ≡ expr_marks by_map (record { place = place; left = left; right = right })
-    expr-marks-of maps place left None =
-        ap (expr_marks v) (maps.bare place left) ∙ (λ i. Before place ∷ (simple-marks left i ++ []))
-    expr-marks-of maps place left (Some c) =
-        ap (expr_marks v) (maps.compared place left c)
-        ∙ (λ i. Before place ∷ (simple-marks left i ++ compared-marks c i))
+    pub expr-marks : (e : ExprOf F) → expr_marks v (expr_with w e) ≡ expr_marks by_map e
+    expr-marks e = λ i. Before e.place ∷ (simple-marks e.left i ++ right-marks e.right i)
 
-    pub expr-marks : {m : ExprOf F → ExprOf G} → MapsExpr m → (e : ExprOf F) → expr_marks v (m e) ≡ expr_marks by_map e
-    expr-marks maps e = expr-marks-of maps e.place e.left e.right
+    pub exprs-marks : (es : ExprsOf F) → exprs_marks v (exprs_with w es) ≡ exprs_marks by_map es
+    exprs-marks es =
+        λ i. expr-marks es.first i ++
+        marks-map (λ x. Of comma ∷ expr_marks v x) (expr_with w) (λ x. Of comma ∷ expr_marks by_map x)
+        (λ x j. Of comma ∷ expr-marks x j) es.others i
 
-    pub exprs-marks :
-        {m : ExprsOf F → ExprsOf G} → MapsExprs m → (es : ExprsOf F) → exprs_marks v (m es) ≡ exprs_marks by_map es
-    exprs-marks maps es =
-        ap (exprs_marks v) (maps.made es)
-        ∙ (λ i. expr-marks maps.maps_first es.first i ++
-        marks-map (λ x. Of comma ∷ expr_marks v x) maps.of_other (λ x. Of comma ∷ expr_marks by_map x)
-        (λ x j. Of comma ∷ expr-marks maps.maps_other x j) es.others i)
+    pub part-marks : (p : PartOf F) → part_marks v (part_with w p) ≡ part_marks by_map p
+    part-marks (parts.Field x) = refl
+    part-marks (parts.Subscripts place es) =
+        λ i. Before place ∷ Of left_bracket ∷ (exprs-marks es i ++ Of right_bracket ∷ [])
 
-    pub part-marks :
-        {m : PartOf F → PartOf G} → MapsPart m → (p : PartOf F) → part_marks v (m p) ≡ part_marks by_map p
-    part-marks maps (parts.Field x) = ap (part_marks v) (maps.field x)
-    part-marks maps (parts.Subscripts place es) =
-        ap (part_marks v) (maps.subscripts place es)
-        ∙ (λ i. Before place ∷ Of left_bracket ∷ (exprs-marks maps.maps_exprs es i ++ Of right_bracket ∷ []))
+    pub designator-marks : (d : DesignatorOf F) → designator_marks v (designator_with w d) ≡ designator_marks by_map d
+    designator-marks d =
+        λ i. ident_marks d.head ++ marks-map (part_marks v) (part_with w) (part_marks by_map) part-marks d.parts i
 
-    pub designator-marks :
-        {m : DesignatorOf F → DesignatorOf G} → MapsDesignator m → (d : DesignatorOf F) →
-        designator_marks v (m d) ≡ designator_marks by_map d
-    designator-marks maps d =
-        ap (designator_marks v) (maps.made d)
-        ∙ (λ i. ident_marks d.head ++
-        marks-map (part_marks v) maps.of_part (part_marks by_map) (part-marks maps.maps_part) d.parts i)
-
-    some-arguments-marks :
-        {m : Option (ArgumentsOf F) → Option (ArgumentsOf G)} → MapsArguments m → (place : Place)
+    listed-marks :
         (es : Option (ExprsOf F)) →
-        option_marks (arguments_marks v) (m (Some (record { place = place; exprs = es })))
-        ≡ arguments_marks by_map (record { place = place; exprs = es })
-    some-arguments-marks maps place None = ap (option_marks (arguments_marks v)) (maps.bare place)
-    some-arguments-marks maps place (Some es) =
-        ap (option_marks (arguments_marks v)) (maps.listed place es)
-        ∙ (λ i. Before place ∷ Of left_parenthesis ∷ (exprs-marks maps.maps_exprs es i ++ Of right_parenthesis ∷ []))
+        option_marks (exprs_marks v) (option_map (exprs_with w) es) ≡ option_marks (exprs_marks by_map) es
+    listed-marks None = refl
+    listed-marks (Some es) = exprs-marks es
 
     pub arguments-marks :
-        {m : Option (ArgumentsOf F) → Option (ArgumentsOf G)} → MapsArguments m → (a : Option (ArgumentsOf F)) →
-        option_marks (arguments_marks v) (m a) ≡ option_marks (arguments_marks by_map) a
-    arguments-marks maps None = ap (option_marks (arguments_marks v)) maps.absent
-    arguments-marks maps (Some a) = some-arguments-marks maps a.place a.exprs
+        (a : Option (ArgumentsOf F)) →
+        option_marks (arguments_marks v) (option_map (arguments_with w) a) ≡ option_marks (arguments_marks by_map) a
+    arguments-marks None = refl
+    arguments-marks (Some a) =
+        λ i. Before a.place ∷ Of left_parenthesis ∷ (listed-marks a.exprs i ++ Of right_parenthesis ∷ [])
 
   -- ---- depths
 
@@ -176,62 +100,46 @@ module _ {F G : Type 0} (w : F → G) where
     abbrev depth_by_map : F → ℕ
     depth_by_map x = n (w x)
 
-    pub term-depth : (t : TermOf F) → term_depth n (term_with t) ≡ term_depth depth_by_map t
+    pub term-depth : (t : TermOf F) → term_depth n (term_with w t) ≡ term_depth depth_by_map t
     term-depth t =
         λ i. max (n (w t.first))
-        (greatest-map (multiplied_depth n) multiplied_with (multiplied_depth depth_by_map) (λ m. refl) t.others i)
+        (greatest-map (multiplied_depth n) (multiplied_with w) (multiplied_depth depth_by_map) (λ m. refl) t.others i)
 
-    pub simple-depth : (s : SimpleOf F) → simple_depth n (simple_with s) ≡ simple_depth depth_by_map s
+    pub simple-depth : (s : SimpleOf F) → simple_depth n (simple_with w s) ≡ simple_depth depth_by_map s
     simple-depth s =
         λ i. max (term-depth s.first i)
-        (greatest-map (added_depth n) added_with (added_depth depth_by_map) (λ a. term-depth a.term) s.others i)
+        (greatest-map (added_depth n) (added_with w) (added_depth depth_by_map) (λ a. term-depth a.term) s.others i)
 
-    expr-depth-of :
-        {m : ExprOf F → ExprOf G} → MapsExpr m → (place : Place) (left : SimpleOf F) (right : Option (ComparedOf F)) →
-        expr_depth n (m (record { place = place; left = left; right = right }))
-        ≡ expr_depth depth_by_map (record { place = place; left = left; right = right })
-    expr-depth-of maps place left None =
-        ap (expr_depth n) (maps.bare place left) ∙ (λ i. suc (max (simple-depth left i) 0))
-    expr-depth-of maps place left (Some c) =
-        ap (expr_depth n) (maps.compared place left c)
-        ∙ (λ i. suc (max (simple-depth left i) (simple-depth c.right i)))
+    right-depth :
+        (right : Option (ComparedOf F)) →
+        option_depth (compared_depth n) (option_map (compared_with w) right)
+        ≡ option_depth (compared_depth depth_by_map) right
+    right-depth None = refl
+    right-depth (Some c) = simple-depth c.right
 
-    pub expr-depth :
-        {m : ExprOf F → ExprOf G} → MapsExpr m → (e : ExprOf F) → expr_depth n (m e) ≡ expr_depth depth_by_map e
-    expr-depth maps e = expr-depth-of maps e.place e.left e.right
+    pub expr-depth : (e : ExprOf F) → expr_depth n (expr_with w e) ≡ expr_depth depth_by_map e
+    expr-depth e = λ i. suc (max (simple-depth e.left i) (right-depth e.right i))
 
-    pub exprs-depth :
-        {m : ExprsOf F → ExprsOf G} → MapsExprs m → (es : ExprsOf F) →
-        exprs_depth n (m es) ≡ exprs_depth depth_by_map es
-    exprs-depth maps es =
-        ap (exprs_depth n) (maps.made es)
-        ∙ (λ i. max (expr-depth maps.maps_first es.first i)
-        (greatest-map (expr_depth n) maps.of_other (expr_depth depth_by_map) (expr-depth maps.maps_other) es.others i))
+    pub exprs-depth : (es : ExprsOf F) → exprs_depth n (exprs_with w es) ≡ exprs_depth depth_by_map es
+    exprs-depth es =
+        λ i. max (expr-depth es.first i)
+        (greatest-map (expr_depth n) (expr_with w) (expr_depth depth_by_map) expr-depth es.others i)
 
-    pub part-depth :
-        {m : PartOf F → PartOf G} → MapsPart m → (p : PartOf F) → part_depth n (m p) ≡ part_depth depth_by_map p
-    part-depth maps (parts.Field x) = ap (part_depth n) (maps.field x)
-    part-depth maps (parts.Subscripts place es) =
-        ap (part_depth n) (maps.subscripts place es) ∙ exprs-depth maps.maps_exprs es
+    pub part-depth : (p : PartOf F) → part_depth n (part_with w p) ≡ part_depth depth_by_map p
+    part-depth (parts.Field x) = refl
+    part-depth (parts.Subscripts place es) = exprs-depth es
 
-    pub designator-depth :
-        {m : DesignatorOf F → DesignatorOf G} → MapsDesignator m → (d : DesignatorOf F) →
-        designator_depth n (m d) ≡ designator_depth depth_by_map d
-    designator-depth maps d =
-        ap (designator_depth n) (maps.made d)
-        ∙ greatest-map (part_depth n) maps.of_part (part_depth depth_by_map) (part-depth maps.maps_part) d.parts
+    pub designator-depth : (d : DesignatorOf F) → designator_depth n (designator_with w d) ≡ designator_depth depth_by_map d
+    designator-depth d = greatest-map (part_depth n) (part_with w) (part_depth depth_by_map) part-depth d.parts
 
-    some-arguments-depth :
-        {m : Option (ArgumentsOf F) → Option (ArgumentsOf G)} → MapsArguments m → (place : Place)
+    listed-depth :
         (es : Option (ExprsOf F)) →
-        option_depth (arguments_depth n) (m (Some (record { place = place; exprs = es })))
-        ≡ arguments_depth depth_by_map (record { place = place; exprs = es })
-    some-arguments-depth maps place None = ap (option_depth (arguments_depth n)) (maps.bare place)
-    some-arguments-depth maps place (Some es) =
-        ap (option_depth (arguments_depth n)) (maps.listed place es) ∙ exprs-depth maps.maps_exprs es
+        option_depth (exprs_depth n) (option_map (exprs_with w) es) ≡ option_depth (exprs_depth depth_by_map) es
+    listed-depth None = refl
+    listed-depth (Some es) = exprs-depth es
 
     pub arguments-depth :
-        {m : Option (ArgumentsOf F) → Option (ArgumentsOf G)} → MapsArguments m → (a : Option (ArgumentsOf F)) →
-        option_depth (arguments_depth n) (m a) ≡ option_depth (arguments_depth depth_by_map) a
-    arguments-depth maps None = ap (option_depth (arguments_depth n)) maps.absent
-    arguments-depth maps (Some a) = some-arguments-depth maps a.place a.exprs
+        (a : Option (ArgumentsOf F)) →
+        option_depth (arguments_depth n) (option_map (arguments_with w) a) ≡ option_depth (arguments_depth depth_by_map) a
+    arguments-depth None = refl
+    arguments-depth (Some a) = listed-depth a.exprs

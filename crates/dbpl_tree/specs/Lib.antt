@@ -2,9 +2,12 @@ pub mod Declarations
 pub mod Depths
 pub mod Expressions
 pub mod Factors
+pub mod FirstTokens
+pub mod Maps
 pub mod Marks
 pub mod Names
 pub mod Operators
+pub mod Plain
 pub mod Statements
 pub mod TypeTrees
 pub mod UnitDepths

@@ -23,6 +23,12 @@ Meets [] (mark ∷ marks) rest = ⊥
 Meets (token ∷ tokens) (Of lexeme ∷ marks) rest = (token.lexeme ≡ lexeme) × Meets tokens marks rest
 Meets (token ∷ tokens) (Before place ∷ marks) rest = (token.place ≡ place) × Meets (token ∷ tokens) marks rest
 
+-- the place that the marks ask for before any lexeme
+abbrev pub first_place : List Mark → Option Place
+first_place [] = None
+first_place (Of lexeme ∷ marks) = None
+first_place (Before place ∷ marks) = Some place
+
 -- ---- phrases that may be absent, or stand again and again
 
 -- nothing, or the phrase

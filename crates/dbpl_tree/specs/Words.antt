@@ -2,6 +2,7 @@
 use Rattle.std.specs.Prelude.{ℕ, List, codes}
 use Rattle.dbpl_base.specs.declared.lexeme.Lexeme.{Lexeme}
 use Rattle.dbpl_base.specs.declared.lexeme.Lexeme.TheVariants.{Reserved, Sign}
+use Rattle.dbpl_base.specs.declared.words.TheConstants.{ADD, ALL, AMPERSAND, AND, ARRAY, BAR, BECOMES, BEGIN, BY, CASE, COLON, COMMA, CONST, CONSTRUCTOR, DATABASE, DEFINITION, DIV, DO, EACH, ELLIPSIS, ELSE, ELSIF, END, EQUALS, EXIT, FOR, FROM, FULL_STOP, GREATER, GREATER_EQUAL, HASH, IF, IMPLEMENTATION, IMPORT, IN, LEFT_BRACE, LEFT_BRACKET, LEFT_PARENTHESIS, LESS, LESS_EQUAL, LOOP, MINUS, MOD, MODULE, NOT, OF, OR, PLUS, PROCEDURE, RECORD, RELATION, REMOVE, REPEAT, REPLACE, RETURN, RIGHT_BRACE, RIGHT_BRACKET, RIGHT_PARENTHESIS, SELECTOR, SEMICOLON, SOME, THEN, TILDE, TIMES, TO, TRANSACTION, TYPE, UNEQUAL, UNTIL, VAR, WHILE}
 
 -- the module that prints, and two of its procedures
 unfoldable pub in_out : List ℕ
@@ -16,244 +17,244 @@ write_ln = codes "WriteLn"
 -- ---- reserved words, by their positions in the table
 
 abbrev pub word_and : Lexeme
-word_and = Reserved 0
+word_and = Reserved AND
 
 abbrev pub word_array : Lexeme
-word_array = Reserved 1
+word_array = Reserved ARRAY
 
 abbrev pub word_begin : Lexeme
-word_begin = Reserved 2
+word_begin = Reserved BEGIN
 
 abbrev pub word_by : Lexeme
-word_by = Reserved 3
+word_by = Reserved BY
 
 abbrev pub word_case : Lexeme
-word_case = Reserved 4
+word_case = Reserved CASE
 
 abbrev pub word_const : Lexeme
-word_const = Reserved 5
+word_const = Reserved CONST
 
 abbrev pub word_definition : Lexeme
-word_definition = Reserved 6
+word_definition = Reserved DEFINITION
 
 abbrev pub word_div : Lexeme
-word_div = Reserved 7
+word_div = Reserved DIV
 
 abbrev pub word_do : Lexeme
-word_do = Reserved 8
+word_do = Reserved DO
 
 abbrev pub word_else : Lexeme
-word_else = Reserved 9
+word_else = Reserved ELSE
 
 abbrev pub word_elsif : Lexeme
-word_elsif = Reserved 10
+word_elsif = Reserved ELSIF
 
 abbrev pub word_end : Lexeme
-word_end = Reserved 11
+word_end = Reserved END
 
 abbrev pub word_exit : Lexeme
-word_exit = Reserved 12
+word_exit = Reserved EXIT
 
 abbrev pub word_for : Lexeme
-word_for = Reserved 14
+word_for = Reserved FOR
 
 abbrev pub word_from : Lexeme
-word_from = Reserved 15
+word_from = Reserved FROM
 
 abbrev pub word_if : Lexeme
-word_if = Reserved 16
+word_if = Reserved IF
 
 abbrev pub word_implementation : Lexeme
-word_implementation = Reserved 17
+word_implementation = Reserved IMPLEMENTATION
 
 abbrev pub word_import : Lexeme
-word_import = Reserved 18
+word_import = Reserved IMPORT
 
 abbrev pub word_in : Lexeme
-word_in = Reserved 19
+word_in = Reserved IN
 
 abbrev pub word_loop : Lexeme
-word_loop = Reserved 20
+word_loop = Reserved LOOP
 
 abbrev pub word_mod : Lexeme
-word_mod = Reserved 21
+word_mod = Reserved MOD
 
 abbrev pub word_module : Lexeme
-word_module = Reserved 22
+word_module = Reserved MODULE
 
 abbrev pub word_not : Lexeme
-word_not = Reserved 23
+word_not = Reserved NOT
 
 abbrev pub word_of : Lexeme
-word_of = Reserved 24
+word_of = Reserved OF
 
 abbrev pub word_or : Lexeme
-word_or = Reserved 25
+word_or = Reserved OR
 
 abbrev pub word_procedure : Lexeme
-word_procedure = Reserved 27
+word_procedure = Reserved PROCEDURE
 
 abbrev pub word_record : Lexeme
-word_record = Reserved 29
+word_record = Reserved RECORD
 
 abbrev pub word_repeat : Lexeme
-word_repeat = Reserved 30
+word_repeat = Reserved REPEAT
 
 abbrev pub word_return : Lexeme
-word_return = Reserved 31
+word_return = Reserved RETURN
 
 abbrev pub word_then : Lexeme
-word_then = Reserved 33
+word_then = Reserved THEN
 
 abbrev pub word_to : Lexeme
-word_to = Reserved 34
+word_to = Reserved TO
 
 abbrev pub word_type : Lexeme
-word_type = Reserved 35
+word_type = Reserved TYPE
 
 abbrev pub word_until : Lexeme
-word_until = Reserved 36
+word_until = Reserved UNTIL
 
 abbrev pub word_var : Lexeme
-word_var = Reserved 37
+word_var = Reserved VAR
 
 abbrev pub word_while : Lexeme
-word_while = Reserved 38
+word_while = Reserved WHILE
 
 abbrev pub word_all : Lexeme
-word_all = Reserved 40
+word_all = Reserved ALL
 
 abbrev pub word_constructor : Lexeme
-word_constructor = Reserved 41
+word_constructor = Reserved CONSTRUCTOR
 
 abbrev pub word_database : Lexeme
-word_database = Reserved 42
+word_database = Reserved DATABASE
 
 abbrev pub word_each : Lexeme
-word_each = Reserved 43
+word_each = Reserved EACH
 
 abbrev pub word_relation : Lexeme
-word_relation = Reserved 44
+word_relation = Reserved RELATION
 
 abbrev pub word_selector : Lexeme
-word_selector = Reserved 45
+word_selector = Reserved SELECTOR
 
 abbrev pub word_some : Lexeme
-word_some = Reserved 46
+word_some = Reserved SOME
 
 abbrev pub word_transaction : Lexeme
-word_transaction = Reserved 47
+word_transaction = Reserved TRANSACTION
 
 -- ---- signs, by their positions in the table
 
 -- +
 abbrev pub plus_sign : Lexeme
-plus_sign = Sign 0
+plus_sign = Sign PLUS
 
 -- -
 abbrev pub minus_sign : Lexeme
-minus_sign = Sign 1
+minus_sign = Sign MINUS
 
 -- *
 abbrev pub times_sign : Lexeme
-times_sign = Sign 2
+times_sign = Sign TIMES
 
 -- =
 abbrev pub equal_sign : Lexeme
-equal_sign = Sign 4
+equal_sign = Sign EQUALS
 
 -- #
 abbrev pub hash_sign : Lexeme
-hash_sign = Sign 5
+hash_sign = Sign HASH
 
 -- <>
 abbrev pub unequal_sign : Lexeme
-unequal_sign = Sign 6
+unequal_sign = Sign UNEQUAL
 
 -- <
 abbrev pub less_sign : Lexeme
-less_sign = Sign 7
+less_sign = Sign LESS
 
 -- <=
 abbrev pub less_equal_sign : Lexeme
-less_equal_sign = Sign 8
+less_equal_sign = Sign LESS_EQUAL
 
 -- >
 abbrev pub greater_sign : Lexeme
-greater_sign = Sign 9
+greater_sign = Sign GREATER
 
 -- >=
 abbrev pub greater_equal_sign : Lexeme
-greater_equal_sign = Sign 10
+greater_equal_sign = Sign GREATER_EQUAL
 
 -- &
 abbrev pub ampersand : Lexeme
-ampersand = Sign 11
+ampersand = Sign AMPERSAND
 
 -- ~
 abbrev pub tilde : Lexeme
-tilde = Sign 12
+tilde = Sign TILDE
 
 -- :=
 abbrev pub becomes_sign : Lexeme
-becomes_sign = Sign 13
+becomes_sign = Sign BECOMES
 
 -- :+
 abbrev pub add_sign : Lexeme
-add_sign = Sign 14
+add_sign = Sign ADD
 
 -- :-
 abbrev pub remove_sign : Lexeme
-remove_sign = Sign 15
+remove_sign = Sign REMOVE
 
 -- :&
 abbrev pub replace_sign : Lexeme
-replace_sign = Sign 16
+replace_sign = Sign REPLACE
 
 -- .
 abbrev pub full_stop : Lexeme
-full_stop = Sign 17
+full_stop = Sign FULL_STOP
 
 -- ..
 abbrev pub ellipsis : Lexeme
-ellipsis = Sign 18
+ellipsis = Sign ELLIPSIS
 
 -- ,
 abbrev pub comma : Lexeme
-comma = Sign 19
+comma = Sign COMMA
 
 -- ;
 abbrev pub semicolon : Lexeme
-semicolon = Sign 20
+semicolon = Sign SEMICOLON
 
 -- :
 abbrev pub colon : Lexeme
-colon = Sign 21
+colon = Sign COLON
 
 -- (
 abbrev pub left_parenthesis : Lexeme
-left_parenthesis = Sign 22
+left_parenthesis = Sign LEFT_PARENTHESIS
 
 -- )
 abbrev pub right_parenthesis : Lexeme
-right_parenthesis = Sign 23
+right_parenthesis = Sign RIGHT_PARENTHESIS
 
 -- [
 abbrev pub left_bracket : Lexeme
-left_bracket = Sign 24
+left_bracket = Sign LEFT_BRACKET
 
 -- ]
 abbrev pub right_bracket : Lexeme
-right_bracket = Sign 25
+right_bracket = Sign RIGHT_BRACKET
 
 -- {
 abbrev pub left_brace : Lexeme
-left_brace = Sign 26
+left_brace = Sign LEFT_BRACE
 
 -- }
 abbrev pub right_brace : Lexeme
-right_brace = Sign 27
+right_brace = Sign RIGHT_BRACE
 
 -- |
 abbrev pub bar : Lexeme
-bar = Sign 28
+bar = Sign BAR

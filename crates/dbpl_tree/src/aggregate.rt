@@ -1,5 +1,8 @@
+ghost use Rattle.std.specs.Prelude.{◌≡◌};
+ghost use Rattle.dbpl_tree.specs.FirstTokens as spec;
+
 use crate::{Element, Qual};
-use dbpl_base::List;
+use dbpl_base::{List, Place};
 
 /// `Q { e , .. }`
 #[cycle(phrases)]
@@ -7,4 +10,13 @@ use dbpl_base::List;
 pub struct Aggregate {
     pub kind: Qual,
     pub elements: List<Element>,
+}
+
+impl Aggregate {
+    /// The place of its first token, which is its type's.
+    pub fn place(&self) -> Place
+        ensures { result ≡ spec.aggregate_place self.now }
+    {
+        self.kind.place()
+    }
 }

@@ -1,4 +1,7 @@
-use crate::{Expr, Statement, StatementsOf};
+ghost use Rattle.std.specs.Prelude.{◌≡◌};
+ghost use Rattle.dbpl_tree.specs.FirstTokens as spec;
+
+use crate::{BoxedExpr, Statement, StatementsOf};
 use dbpl_base::{List, Place};
 
 /// A branch of CASE, or nothing.
@@ -10,11 +13,32 @@ pub enum CaseOf<S> {
     Labelled(Label, List<Label>, StatementsOf<S>),
 }
 
+impl<S> CaseOf<S> {
+    /// The place of its first token, or of the one behind it where it is nothing.
+    pub fn place(&self) -> Place
+        ensures { result ≡ spec.case_place self.now }
+    {
+        match self {
+            CaseOf::Empty(place) => *place,
+            CaseOf::Labelled(first, _, _) => first.place(),
+        }
+    }
+}
+
 /// `low`, or `low .. high`
 #[derive(Debug, Drop)]
 pub struct Label {
-    pub low: Expr,
-    pub high: Option<Expr>,
+    pub low: BoxedExpr,
+    pub high: Option<BoxedExpr>,
+}
+
+impl Label {
+    /// The place of its first token.
+    pub fn place(&self) -> Place
+        ensures { result ≡ spec.label_place self.now }
+    {
+        self.low.get().place
+    }
 }
 
 /// A branch of CASE.

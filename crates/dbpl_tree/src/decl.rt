@@ -1,5 +1,10 @@
-use crate::{Aggregate, Expr, Heading, Ident, Idents, Params, Qual, Statements, TypeTree};
-use dbpl_base::{List, Place};
+ghost use Rattle.std.specs.Prelude.{◌≡◌};
+ghost use Rattle.dbpl_tree.specs.FirstTokens as spec;
+
+use crate::{
+    Aggregate, BoxedExpr, Expr, Heading, Ident, Idents, Params, Qual, Statements, TypeTree,
+};
+use dbpl_base::{Boxed, List, Place};
 
 /// Constants, types or variables. Each place is that of the first token.
 #[derive(Debug, Drop)]
@@ -12,11 +17,32 @@ pub enum PlainDecl {
     Var(Place, List<VarDecl>),
 }
 
+impl PlainDecl {
+    /// The place of its first token.
+    pub fn place(&self) -> Place
+        ensures { result ≡ spec.plain_place self.now }
+    {
+        match self {
+            PlainDecl::Const(place, _) | PlainDecl::Type(place, _) | PlainDecl::Var(place, _) =>
+                *place,
+        }
+    }
+}
+
 /// `a = e ;`
 #[derive(Debug, Drop)]
 pub struct ConstDecl {
     pub name: Ident,
     pub value: Expr,
+}
+
+impl ConstDecl {
+    /// The place of its first token.
+    pub fn place(&self) -> Place
+        ensures { result ≡ spec.const_place self.now }
+    {
+        self.name.place
+    }
 }
 
 /// `T = type ;`
@@ -26,6 +52,15 @@ pub struct TypeDecl {
     pub kind: TypeTree,
 }
 
+impl TypeDecl {
+    /// The place of its first token.
+    pub fn place(&self) -> Place
+        ensures { result ≡ spec.type_decl_place self.now }
+    {
+        self.name.place
+    }
+}
+
 /// `a , b : type ;`
 #[derive(Debug, Drop)]
 pub struct VarDecl {
@@ -33,21 +68,54 @@ pub struct VarDecl {
     pub kind: TypeTree,
 }
 
+impl VarDecl {
+    /// The place of its first token.
+    pub fn place(&self) -> Place
+        ensures { result ≡ spec.var_place self.now }
+    {
+        self.names.place()
+    }
+}
+
 /// What every kind of module may declare.
 #[derive(Debug, Drop)]
 pub enum Common {
     Plain(PlainDecl),
     /// `SELECTOR s ( parameters ) FOR x IN Q : e ;`
-    Selector(Place, Ident, Option<Params>, Ident, Qual, Expr),
+    Selector(Place, Ident, Option<Params>, Ident, Qual, BoxedExpr),
     /// `CONSTRUCTOR c ( parameters ) : aggregate ;`
     Constructor(Place, Ident, Option<Params>, Aggregate),
+}
+
+impl Common {
+    /// The place of its first token.
+    pub fn place(&self) -> Place
+        ensures { result ≡ spec.common_place self.now }
+    {
+        match self {
+            Common::Plain(decl) => decl.place(),
+            Common::Selector(place, _, _, _, _, _) | Common::Constructor(place, _, _, _) => *place,
+        }
+    }
 }
 
 /// A declaration of a module that has a body.
 #[derive(Debug, Drop)]
 pub enum Decl {
     Common(Common),
-    Routine(Routine),
+    Routine(Boxed<Routine>),
+}
+
+impl Decl {
+    /// The place of its first token.
+    pub fn place(&self) -> Place
+        ensures { result ≡ spec.decl_place self.now }
+    {
+        match self {
+            Decl::Common(common) => common.place(),
+            Decl::Routine(routine) => routine.get().place(),
+        }
+    }
 }
 
 /// `heading ; declarations BEGIN body END name ;`
@@ -61,10 +129,31 @@ pub struct Routine {
     pub end_name: Ident,
 }
 
+impl Routine {
+    /// The place of its first token.
+    pub fn place(&self) -> Place
+        ensures { result ≡ spec.routine_place self.now }
+    {
+        self.heading.place
+    }
+}
+
 /// A declaration of a definition module.
 #[derive(Debug, Drop)]
 pub enum DefinitionItem {
     Common(Common),
     /// `heading ;`
     Heading(Heading),
+}
+
+impl DefinitionItem {
+    /// The place of its first token.
+    pub fn place(&self) -> Place
+        ensures { result ≡ spec.item_place self.now }
+    {
+        match self {
+            DefinitionItem::Common(common) => common.place(),
+            DefinitionItem::Heading(heading) => heading.place,
+        }
+    }
 }

@@ -1,5 +1,8 @@
+ghost use Rattle.std.specs.Prelude.{◌≡◌};
+ghost use Rattle.dbpl_tree.specs.FirstTokens as spec;
+
 use crate::{Each, ExprOf, Factor};
-use dbpl_base::{Boxed, List};
+use dbpl_base::{Boxed, List, Place};
 
 /// An element of an aggregate.
 #[cycle(phrases)]
@@ -10,5 +13,18 @@ pub enum Element {
     /// `e`
     Plain(ExprOf<Factor>),
     /// `target OF EACH x IN range , EACH .. : predicate`
-    Of(ExprOf<Factor>, Each, List<Each>, Boxed<ExprOf<Factor>>),
+    Of(Boxed<ExprOf<Factor>>, Each, List<Each>, Boxed<ExprOf<Factor>>),
+}
+
+impl Element {
+    /// The place of its first token.
+    pub fn place(&self) -> Place
+        ensures { result ≡ spec.element_place self.now }
+    {
+        match self {
+            Element::Each(each, _) => each.place,
+            Element::Plain(expr) => expr.place,
+            Element::Of(target, _, _, _) => target.get().place,
+        }
+    }
 }

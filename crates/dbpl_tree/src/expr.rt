@@ -1,3 +1,8 @@
+ghost use Rattle.std.specs.Prelude.{◌≡◌, slice_get};
+ghost use Rattle.std.specs.Option.{option_copied};
+ghost use Rattle.dbpl_tree.specs.FirstTokens as spec;
+ghost use Rattle.dbpl_tree.specs.Plain.{exprs_in};
+
 use crate::{Factor, Relation, SimpleOf};
 use dbpl_base::{Boxed, List, Place};
 
@@ -7,7 +12,7 @@ pub struct ExprOf<F> {
     /// Of its first token.
     pub place: Place,
     pub left: SimpleOf<F>,
-    pub right: Option<ComparedOf<F>>,
+    pub right: Option<Boxed<ComparedOf<F>>>,
 }
 
 /// `= right`, or its like
@@ -24,6 +29,26 @@ pub struct ComparedOf<F> {
 pub struct ExprsOf<F> {
     pub first: Boxed<ExprOf<F>>,
     pub others: List<ExprOf<F>>,
+}
+
+impl<F> ExprsOf<F> {
+    /// The place of its first token.
+    pub fn place(&self) -> Place
+        ensures { result ≡ spec.exprs_place self.now }
+    {
+        self.first.get().place
+    }
+
+    /// The expression at this position, counted from 0.
+    pub fn get(&self, at: usize) -> Option<&ExprOf<F>>
+        ensures { option_copied result ≡ slice_get (exprs_in self.now) at }
+    {
+        if at == 0 {
+            Some(self.first.get())
+        } else {
+            self.others.get(at - 1)
+        }
+    }
 }
 
 /// An expression.

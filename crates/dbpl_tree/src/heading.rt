@@ -1,3 +1,6 @@
+ghost use Rattle.std.specs.Prelude.{◌≡◌};
+ghost use Rattle.dbpl_tree.specs.FirstTokens as spec;
+
 use crate::{Ident, Idents, Qual};
 use dbpl_base::{List, Place};
 
@@ -23,6 +26,15 @@ pub enum RoutineWord {
 pub struct Signature {
     pub params: Params,
     pub result: Option<Qual>,
+}
+
+impl Signature {
+    /// The place of its first token.
+    pub fn place(&self) -> Place
+        ensures { result ≡ spec.signature_place self.now }
+    {
+        self.params.place
+    }
 }
 
 /// `( section ; .. )`

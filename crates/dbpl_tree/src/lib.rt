@@ -4,6 +4,9 @@
 #![tactic(auto)]
 
 mod aggregate;
+mod boxed_arguments;
+mod boxed_expr;
+mod boxed_range;
 mod case;
 mod decl;
 mod designator;
@@ -14,6 +17,7 @@ mod factor;
 mod heading;
 mod ident;
 mod operators;
+mod plain;
 mod range;
 mod simple;
 mod statement;
@@ -21,8 +25,12 @@ mod statements;
 mod term;
 mod type_tree;
 mod unit;
+mod widths;
 
 pub use aggregate::Aggregate;
+pub use boxed_arguments::BoxedArguments;
+pub use boxed_expr::BoxedExpr;
+pub use boxed_range::BoxedRange;
 pub use case::{Case, CaseOf, Label};
 pub use decl::{Common, ConstDecl, Decl, DefinitionItem, PlainDecl, Routine, TypeDecl, VarDecl};
 pub use designator::{Arguments, ArgumentsOf, Designator, DesignatorOf, Part, PartOf};
@@ -36,6 +44,7 @@ pub use operators::{
     AddingOperator, ChangeOperator, MultiplyingOperator, NotOperator, Quantifier, Relation,
     SignOperator,
 };
+pub use plain::{argument_of, has_name, is_factor, is_name, name_of, only_string, string_of};
 pub use range::Range;
 pub use simple::{Added, AddedOf, Simple, SimpleOf};
 pub use statement::{Elsif, ElsifOf, Statement};

@@ -1,4 +1,7 @@
-use crate::{Expr, Idents, Qual};
+ghost use Rattle.std.specs.Prelude.{◌≡◌};
+ghost use Rattle.dbpl_tree.specs.FirstTokens as spec;
+
+use crate::{BoxedExpr, Idents, Qual};
 use dbpl_base::{Boxed, List, Place};
 
 /// A type as it is written. Each place is that of its first token.
@@ -9,13 +12,29 @@ pub enum TypeTree {
     /// `( red , blue )`
     Enumeration(Place, Idents),
     /// `[ low .. high ]`
-    Subrange(Place, Expr, Expr),
+    Subrange(Place, BoxedExpr, BoxedExpr),
     /// `ARRAY index , .. OF element`: the first index type, the others, and the type of the elements
     Array(Place, Boxed<TypeTree>, List<TypeTree>, Boxed<TypeTree>),
     /// `RECORD fields ; .. END`
     Record(Place, FieldsOf<TypeTree>, List<FieldsOf<TypeTree>>),
     /// `RELATION a , b OF Q`
     Relation(Place, Idents, Qual),
+}
+
+impl TypeTree {
+    /// The place of its first token.
+    pub fn place(&self) -> Place
+        ensures { result ≡ spec.type_place self.now }
+    {
+        match self {
+            TypeTree::Named(qual) => qual.place(),
+            TypeTree::Enumeration(place, _)
+            | TypeTree::Subrange(place, _, _)
+            | TypeTree::Array(place, _, _, _)
+            | TypeTree::Record(place, _, _)
+            | TypeTree::Relation(place, _, _) => *place,
+        }
+    }
 }
 
 /// The fields of one type in a record, or nothing.
@@ -25,6 +44,18 @@ pub enum FieldsOf<T> {
     Empty(Place),
     /// `a , b : type`
     Fields(Idents, Boxed<T>),
+}
+
+impl<T> FieldsOf<T> {
+    /// The place of its first token, or of the one behind it where it is nothing.
+    pub fn place(&self) -> Place
+        ensures { result ≡ spec.fields_place self.now }
+    {
+        match self {
+            FieldsOf::Empty(place) => *place,
+            FieldsOf::Fields(names, _) => names.place(),
+        }
+    }
 }
 
 /// The fields of one type.

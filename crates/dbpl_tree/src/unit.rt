@@ -1,3 +1,6 @@
+ghost use Rattle.std.specs.Prelude.{◌≡◌};
+ghost use Rattle.dbpl_tree.specs.FirstTokens as spec;
+
 use crate::{Common, Decl, DefinitionItem, Ident, Idents, Statements};
 use dbpl_base::{List, Place};
 
@@ -9,6 +12,20 @@ pub enum Unit {
     Implementation(Place, Program),
     Definition(DefinitionUnit),
     Data(DataUnit),
+}
+
+impl Unit {
+    /// The place of its first token.
+    pub fn place(&self) -> Place
+        ensures { result ≡ spec.unit_place self.now }
+    {
+        match self {
+            Unit::Program(program) => program.place,
+            Unit::Implementation(place, _) => *place,
+            Unit::Definition(definition) => definition.place,
+            Unit::Data(data) => data.place,
+        }
+    }
 }
 
 /// `MODULE m ; imports declarations BEGIN body END m .`
@@ -52,4 +69,15 @@ pub enum Import {
     Whole(Place, Idents),
     /// `FROM M IMPORT a , b ;`
     From(Place, Ident, Idents),
+}
+
+impl Import {
+    /// The place of its first token.
+    pub fn place(&self) -> Place
+        ensures { result ≡ spec.import_place self.now }
+    {
+        match self {
+            Import::Whole(place, _) | Import::From(place, _, _) => *place,
+        }
+    }
 }

@@ -4,9 +4,6 @@ use Rattle.dbpl_copy.proofs.expressions.+copy_phrases.Given as goal
 abbrev pub decreases-copy_factor : goal.decreases-copy_factor
 decreases-copy_factor l = 16 * goal.size-copy_factor l
 
-abbrev pub decreases-copy_boxed_factor : goal.decreases-copy_boxed_factor
-decreases-copy_boxed_factor l = 16 * goal.size-copy_boxed_factor l + 1
-
 abbrev pub decreases-copy_multiplied : goal.decreases-copy_multiplied
 decreases-copy_multiplied l = 16 * goal.size-copy_multiplied l + 1
 
@@ -25,9 +22,6 @@ decreases-copy_compared l = 16 * goal.size-copy_compared l + 5
 abbrev pub decreases-copy_expr : goal.decreases-copy_expr
 decreases-copy_expr l = 16 * goal.size-copy_expr l + 6
 
-abbrev pub decreases-copy_boxed_expr : goal.decreases-copy_boxed_expr
-decreases-copy_boxed_expr l = 16 * goal.size-copy_boxed_expr l + 7
-
 abbrev pub decreases-copy_expr_list : goal.decreases-copy_expr_list
 decreases-copy_expr_list l = 16 * goal.size-copy_expr_list l + 7
 
@@ -45,6 +39,9 @@ decreases-copy_designator l = 16 * goal.size-copy_designator l + 11
 
 abbrev pub decreases-copy_arguments : goal.decreases-copy_arguments
 decreases-copy_arguments l = 16 * goal.size-copy_arguments l + 9
+
+abbrev pub decreases-copy_optional_arguments : goal.decreases-copy_optional_arguments
+decreases-copy_optional_arguments l = 16 * goal.size-copy_optional_arguments l + 10
 
 abbrev pub decreases-copy_aggregate : goal.decreases-copy_aggregate
 decreases-copy_aggregate l = 16 * goal.size-copy_aggregate l

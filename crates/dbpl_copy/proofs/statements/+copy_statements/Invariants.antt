@@ -4,17 +4,14 @@ use Rattle.dbpl_copy.proofs.statements.+copy_statements.Given as goal
 abbrev pub decreases-copy_statement : goal.decreases-copy_statement
 decreases-copy_statement l = 8 * goal.size-copy_statement l
 
-abbrev pub decreases-copy_boxed_statement : goal.decreases-copy_boxed_statement
-decreases-copy_boxed_statement l = 8 * goal.size-copy_boxed_statement l + 1
-
 abbrev pub decreases-copy_list : goal.decreases-copy_list
 decreases-copy_list l = 8 * goal.size-copy_list l + 1
 
 abbrev pub decreases-copy_body : goal.decreases-copy_body
 decreases-copy_body l = 8 * goal.size-copy_body l + 2
 
-abbrev pub decreases-copy_optional_body : goal.decreases-copy_optional_body
-decreases-copy_optional_body l = 8 * goal.size-copy_optional_body l + 3
+abbrev pub decreases-copy_otherwise : goal.decreases-copy_otherwise
+decreases-copy_otherwise l = 8 * goal.size-copy_otherwise l + 3
 
 abbrev pub decreases-copy_elsif : goal.decreases-copy_elsif
 decreases-copy_elsif l = 8 * goal.size-copy_elsif l + 3

@@ -4,9 +4,6 @@ use Rattle.dbpl_copy.proofs.types.+copy_types.Given as goal
 abbrev pub decreases-copy_type : goal.decreases-copy_type
 decreases-copy_type l = 4 * goal.size-copy_type l
 
-abbrev pub decreases-copy_boxed_type : goal.decreases-copy_boxed_type
-decreases-copy_boxed_type l = 4 * goal.size-copy_boxed_type l + 1
-
 abbrev pub decreases-copy_type_list : goal.decreases-copy_type_list
 decreases-copy_type_list l = 4 * goal.size-copy_type_list l + 1
 

@@ -1,5 +1,6 @@
 -- By the laws of what is read.
 use Rattle.std.proofs.Common.{◌-◌, ℕ, drop}
+use Rattle.dbpl_base.specs.declared.limits.TheConstants.{PHRASE_DEPTH}
 use Rattle.dbpl_grammar.specs.Expressions.{at_depth, designator}
 use Rattle.dbpl_tree.specs.Depths.{designator_depth, factor_depth}
 use Rattle.dbpl_tree.specs.Expressions.{designator_marks}
@@ -12,5 +13,5 @@ returns c =
     let law = c.reads_designators.ensures in
     let laws : PhraseLaws (designator_marks factor_marks) (designator_depth factor_depth) (λ (limit : ℕ). designator (at_depth limit).expr) = record { found = law.found; only = law.only; refused = law.refused; begun = law.begun; named = law.named } in
     let tokens = c.args.tokens.now in
-    let is = is_answer laws (64 - c.args.depth) c.saturating_sub.result tokens (drop c.args.at tokens) c.designator.result c.answered.result c.saturating_sub.ensures c.designator.ensures c.answered.ensures in
+    let is = is_answer laws (PHRASE_DEPTH - c.args.depth) c.saturating_sub.result tokens (drop c.args.at tokens) c.designator.result c.answered.result c.saturating_sub.ensures c.designator.ensures c.answered.ensures in
     record { reads = is.reads; found = is.found; only = is.only; refused = is.refused; placed = is.placed }

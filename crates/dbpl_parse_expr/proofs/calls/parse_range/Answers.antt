@@ -1,5 +1,6 @@
 -- By the laws of what is read.
 use Rattle.std.proofs.Common.{◌-◌, ℕ, drop}
+use Rattle.dbpl_base.specs.declared.limits.TheConstants.{PHRASE_DEPTH}
 use Rattle.dbpl_grammar.specs.Expressions.{at_depth}
 use Rattle.dbpl_tree.specs.Depths.{range_depth}
 use Rattle.dbpl_tree.specs.Factors.{range_marks}
@@ -11,5 +12,5 @@ returns c =
     let law = c.reads_ranges.ensures in
     let laws : PhraseLaws range_marks range_depth (λ (limit : ℕ). (at_depth limit).range) = record { found = law.found; only = law.only; refused = law.refused; begun = law.begun; named = law.named } in
     let tokens = c.args.tokens.now in
-    let is = is_answer laws (64 - c.args.depth) c.saturating_sub.result tokens (drop c.args.at tokens) c.range.result c.answered.result c.saturating_sub.ensures c.range.ensures c.answered.ensures in
+    let is = is_answer laws (PHRASE_DEPTH - c.args.depth) c.saturating_sub.result tokens (drop c.args.at tokens) c.range.result c.answered.result c.saturating_sub.ensures c.range.ensures c.answered.ensures in
     record { reads = is.reads; found = is.found; only = is.only; refused = is.refused; placed = is.placed }
