@@ -15,7 +15,7 @@ use Rattle.dbpl_log.specs.declared.log.Log.{Log}
 use Rattle.dbpl_log.specs.Records.{records_of, bytes_of_all, next_gate}
 use Rattle.dbpl_log.specs.Fronts.{IsFront}
 use Rattle.dbpl_log.specs.Rest.{IsAtRest}
-use Rattle.dbpl_log.specs.Changes.{LeavesLog, BeginsWith, HasEither, with_record, staging}
+use Rattle.dbpl_log.specs.Changes.{LeavesLog, HasFront, HasEither, with_record, staging}
 use Rattle.dbpl_log.proofs.RecordLaws.{records_hold, holds_records, front_more, length_front, take_front}
 use Rattle.dbpl_log.proofs.Leaving.{moments_leave_weaken, moments_leave_then, moments_writing}
 
@@ -33,8 +33,8 @@ pub record Stands (s : State) (gate : ℕ) (records : List (List ℕ)) : Type 0 
   pub whole : IsFront front records
   pub place : length front ≡ gate
 
-pub stands : (s : State) (log : Log) (records : List (List ℕ)) → IsAtRest s.disk log records → Stands s log.gate records
-stands s log records at_rest =
+pub log_stands : (s : State) (log : Log) (records : List (List ℕ)) → IsAtRest s.disk log records → Stands s log.gate records
+log_stands s log records at_rest =
     let holds = records_hold s.disk.log.now records at_rest.only.records_are in
     record {
       front = holds.front;
@@ -96,16 +96,16 @@ module _ (added : List ℕ) (records : List (List ℕ)) (gate : ℕ) (h0 : Histo
   P left = HasEither records added left
 
   abbrev StageLeaves : History → Type 0
-  StageLeaves h1 = (front rest : List ℕ) → (now h0).disk.log ≡ settled (front ++ rest) → length front ≡ gate + 1 → EachMoment (LeavesLog (BeginsWith front) (now h0)) h0 h1
+  StageLeaves h1 = (front rest : List ℕ) → (now h0).disk.log ≡ settled (front ++ rest) → length front ≡ gate + 1 → EachMoment (LeavesLog (HasFront front) (now h0)) h0 h1
 
-  old_kept : (left : List ℕ) → BeginsWith F left → P left
+  old_kept : (left : List ℕ) → HasFront F left → P left
   old_kept left begins = inl (has_old stood.front stood.byte (drop (length F) left) left records stood.shut stood.whole (begins ∙ append_assoc stood.front (stood.byte ∷ []) (drop (length F) left)))
 
   pub while_staging : (h1 : History) → StageLeaves h1 → EachMoment (LeavesLog P (now h0)) h0 h1
   while_staging h1 leaves =
       let log : (now h0).disk.log ≡ settled (F ++ stood.rest) = stood.log ∙ ap settled (sym (append_assoc stood.front (stood.byte ∷ []) stood.rest)) in
       let long : length F ≡ gate + 1 = omega (arith, length-append stood.front (stood.byte ∷ []), stood.place) in
-      moments_leave_weaken (BeginsWith F) P (now h0) h0 h1 old_kept (leaves F stood.rest log long)
+      moments_leave_weaken (HasFront F) P (now h0) h0 h1 old_kept (leaves F stood.rest log long)
 
   abbrev field : List ℕ
   field = to_le_bytes w32 (length added)

@@ -7,7 +7,7 @@ use Rattle.std.proofs.lemmas.List.{take-append-drop, drop-drop, length-take-le, 
 use Rattle.std.proofs.lemmas.Nat.{from_le_bytes-to_le_bytes_4}
 use Rattle.std.proofs.lemmas.Slice.Eq.{bytes_eq-Decides}
 use Rattle.std.proofs.Math.Seq.{take-append_seam, drop-append-add}
-use Rattle.dbpl_log.specs.Records.{head_text, open_head, HasHead, number_in, record_in, records_from, records_of, ◌>>=◌, bytes_of_all, next_gate}
+use Rattle.dbpl_log.specs.Records.{head_text, open_head, HasHead, length_told, record_in, records_from, records_of, ◌>>=◌, bytes_of_all, next_gate}
 use Rattle.dbpl_log.specs.Fronts.{AreOpen, IsFront, Holds}
 
 pub length_text : length head_text ≡ 15
@@ -30,7 +30,7 @@ drop_front n front rest long = ap (λ m. drop m (front ++ rest)) (sym long) ∙ 
 
 -- One record.
 
-pub record_fits : (field first behind : List ℕ) → length field ≡ 4 → number_in field ≡ length first → record_in (field ++ first ++ behind) ≡ Some (first, behind)
+pub record_fits : (field first behind : List ℕ) → length field ≡ 4 → length_told field ≡ length first → record_in (field ++ first ++ behind) ≡ Some (first, behind)
 unfolding record_in
 record_fits field first behind four number =
     let whole : field ++ first ++ behind ≡ field ++ (first ++ behind) = append_assoc field first behind in
@@ -45,7 +45,7 @@ record_fits field first behind four number =
 pub record FoundIn (behind : List ℕ) (found : List ℕ × List ℕ) : Type 0 where
   pub is : behind ≡ take 4 behind ++ found.0 ++ found.1
   pub four : length (take 4 behind) ≡ 4
-  pub number : number_in (take 4 behind) ≡ length found.0
+  pub number : length_told (take 4 behind) ≡ length found.0
 
 found_parts : (place size : ℕ) (behind first rest : List ℕ) → place + size ≤ length behind → first ≡ take size (drop place behind) → rest ≡ drop (place + size) behind →
     (behind ≡ take place behind ++ first ++ rest) × (length (take place behind) ≡ place) × (length first ≡ size)
@@ -57,18 +57,18 @@ found_parts place size behind first rest enough first_is rest_is =
       ap length first_is ∙ length-take-le size (drop place behind) (omega (arith, enough, length-drop place behind)),
     )
 
-found_tested : (behind : List ℕ) (found : List ℕ × List ℕ) (field : List ℕ) (size : ℕ) (test : Bool) → field ≡ take 4 behind → size ≡ number_in field → nat_lt (length behind) (4 + size) ≡ test →
+found_tested : (behind : List ℕ) (found : List ℕ × List ℕ) (field : List ℕ) (size : ℕ) (test : Bool) → field ≡ take 4 behind → size ≡ length_told field → nat_lt (length behind) (4 + size) ≡ test →
     (if test then None else Some (take size (drop 4 behind), drop (4 + size) behind)) ≡ Some found → FoundIn behind found
 found_tested behind found field size true field_is size_is test is = absurd cc
 found_tested behind found field size false field_is size_is test is =
     let first_is : found.0 ≡ take size (drop 4 behind) = cc in
     let rest_is : found.1 ≡ drop (4 + size) behind = cc in
     let parts = found_parts 4 size behind found.0 found.1 (ltb-false _ _ test) first_is rest_is in
-    record { is = parts.0; four = parts.1; number = ap number_in (sym field_is) ∙ sym size_is ∙ sym parts.2 }
+    record { is = parts.0; four = parts.1; number = ap length_told (sym field_is) ∙ sym size_is ∙ sym parts.2 }
 
 pub found_in : (behind : List ℕ) (found : List ℕ × List ℕ) → record_in behind ≡ Some found → FoundIn behind found
 unfolding record_in
-found_in behind found is = found_tested behind found (take 4 behind) (number_in (take 4 behind)) _ refl refl refl is
+found_in behind found is = found_tested behind found (take 4 behind) (length_told (take 4 behind)) _ refl refl refl is
 
 -- From a gate on.
 
@@ -204,13 +204,13 @@ records_hold log records is =
 
 -- One record more.
 
-open_more : (bytes : List ℕ) (records : List (List ℕ)) (field added : List ℕ) → AreOpen bytes records → length field ≡ 4 → number_in field ≡ length added → AreOpen (bytes ++ 1 ∷ (field ++ added)) (records ++ added ∷ [])
+open_more : (bytes : List ℕ) (records : List (List ℕ)) (field added : List ℕ) → AreOpen bytes records → length field ≡ 4 → length_told field ≡ length added → AreOpen (bytes ++ 1 ∷ (field ++ added)) (records ++ added ∷ [])
 open_more bytes [] field added opened four number = rw opened (field, [], ap (λ b. 1 ∷ b) (sym (append-nil (field ++ added))), four, number, refl)
 open_more bytes (first ∷ others) field added (old, behind, is, old_four, old_number, opened) four number =
     (old, behind ++ 1 ∷ (field ++ added), ap (λ b. b ++ 1 ∷ (field ++ added)) is ∙ ap (λ b. 1 ∷ b) (append_assoc (old ++ first) behind (1 ∷ (field ++ added))), old_four, old_number, open_more behind others field added opened four number)
 
 pub front_more : (front : List ℕ) (records : List (List ℕ)) (added : List ℕ) → IsFront front records → length added < 2 ^ 32 → IsFront (front ++ 1 ∷ (to_le_bytes w32 (length added) ++ added)) (records ++ added ∷ [])
-unfolding number_in
+unfolding length_told
 front_more front records added whole short = record {
   behind = whole.behind ++ 1 ∷ (to_le_bytes w32 (length added) ++ added);
   is = ap (λ b. b ++ 1 ∷ (to_le_bytes w32 (length added) ++ added)) whole.is ∙ append_assoc open_head whole.behind (1 ∷ (to_le_bytes w32 (length added) ++ added));

@@ -37,8 +37,8 @@ abbrev pub HasEither : List (List ℕ) → List ℕ → List ℕ → Type 0
 HasEither records added log = (records_of log ≡ Some records) ⊎ (records_of log ≡ Some (records ++ added ∷ []))
 
 -- the bytes begin with these
-abbrev pub BeginsWith : List ℕ → List ℕ → Type 0
-BeginsWith front bytes = bytes ≡ front ++ drop (length front) bytes
+abbrev pub HasFront : List ℕ → List ℕ → Type 0
+HasFront front bytes = bytes ≡ front ++ drop (length front) bytes
 
 -- The log with a record behind the gate at this place: the gate open, the length of the record, the record, a shut gate, and
 -- whatever stood behind.

@@ -19,14 +19,14 @@ abbrev pub HasHead : List ℕ → Type 0
 HasHead log = take 16 log ≡ open_head
 
 -- the length field of a record: four bytes, the lowest first
-unfoldable pub number_in : List ℕ → ℕ
-number_in field = from_le_bytes w32 field
+unfoldable pub length_told : List ℕ → ℕ
+length_told field = from_le_bytes w32 field
 
 -- The bytes of the record behind an open gate, and what stands after them. There are none where the record doesn't fit.
 unfoldable pub record_in : List ℕ → Option (List ℕ × List ℕ)
 record_in behind =
-    if nat_lt (length behind) (4 + number_in (take 4 behind)) then None
-    else Some (take (number_in (take 4 behind)) (drop 4 behind), drop (4 + number_in (take 4 behind)) behind)
+    if nat_lt (length behind) (4 + length_told (take 4 behind)) then None
+    else Some (take (length_told (take 4 behind)) (drop 4 behind), drop (4 + length_told (take 4 behind)) behind)
 
 infixl 10 ◌>>=◌
 abbrev pub ◌>>=◌ : {A B : Type 0} → Option A → (A → Option B) → Option B

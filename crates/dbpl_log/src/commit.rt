@@ -4,7 +4,7 @@ ghost use Rattle.dbpl_world.specs.Images.{settled};
 ghost use Rattle.dbpl_world.specs.History.{more, now};
 ghost use Rattle.dbpl_world.specs.Moments.{EachMoment};
 ghost use Rattle.dbpl_world.specs.Counts.{Rose, OnlyDiskFaults};
-ghost use Rattle.dbpl_log.specs.Changes.{LeavesLog, ChangesLog, BeginsWith, HasEither, with_record, staging};
+ghost use Rattle.dbpl_log.specs.Changes.{LeavesLog, ChangesLog, HasFront, HasEither, with_record, staging};
 ghost use Rattle.dbpl_log.specs.Rest.{IsAtRest, length_of};
 
 use crate::Log;
@@ -43,7 +43,7 @@ fn stage<W: World>(world: &mut W, gate: u64, added: &[u8]) -> Result<(), Failed>
     ensures end { OnOk result (gate + 6 + length added.now < 2 ^ 63) }
     ensures ok { IsTrue W.tells → OnOk result (W.history world.new ≡ more (W.history world.old) (staging gate added.now)) }
     ensures moments { IsTrue W.tells → (front rest : List ℕ) → (now (W.history world.old)).disk.log ≡ settled (front ++ rest) → length front ≡ gate + 1 →
-        EachMoment (LeavesLog (BeginsWith front) (now (W.history world.old))) (W.history world.old) (W.history world.new) }
+        EachMoment (LeavesLog (HasFront front) (now (W.history world.old))) (W.history world.old) (W.history world.new) }
     ensures only_log { IsTrue W.tells → EachMoment (ChangesLog (now (W.history world.old))) (W.history world.old) (W.history world.new) }
     ensures same { W.mounted world.new ≡ W.mounted world.old }
     ensures counts { OnlyDiskFaults (W.counts world.old) (W.counts world.new) }

@@ -40,7 +40,7 @@ pub(crate) fn read_records(alloc: Global, log: &[u8]) -> Result<Option<Opened>, 
 }
 
 /// The record behind an open gate, and what stands after it.
-#[tactic(auto, unfolding(crate::specs::Records::record_in, crate::specs::Records::number_in))]
+#[tactic(auto, unfolding(crate::specs::Records::record_in, crate::specs::Records::length_told))]
 fn first_record(behind: &[u8]) -> Option<(&[u8], &[u8])>
     ensures { option_map (λ found. (found.0.now, found.1.now)) result ≡ record_in behind.now }
 {

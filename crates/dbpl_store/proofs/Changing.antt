@@ -7,10 +7,11 @@ use Rattle.std.specs.Cmp.{first_so, second_so}
 use Rattle.std.specs.List.{find, list_all}
 use Rattle.std.specs.Option.{is_some, option_and_then, option_map, unwrap_or}
 use Rattle.dbpl_codec.proofs.ByteLaws.{some_is}
-use Rattle.dbpl_database.proofs.Holding.{get_set}
-use Rattle.dbpl_database.proofs.Kept.{added_kept, held_kept}
-use Rattle.dbpl_database.specs.Binding.{Binds, Differs, bound_named, empty_bound, holding, with_bound, with_relation}
-use Rattle.dbpl_database.specs.Databases.{are_small, is_bound, is_database, is_kept}
+use Rattle.dbpl_value.proofs.Holding.{get_set}
+use Rattle.dbpl_value.proofs.KeptDatabases.{added_kept, held_kept}
+use Rattle.dbpl_value.proofs.BoundTo.{binds-absent, binds-there, differs-where}
+use Rattle.dbpl_value.specs.Binding.{Binds, Differs, bound_named, empty_bound, holding, with_bound, with_relation}
+use Rattle.dbpl_value.specs.Databases.{are_small, is_bound, is_database, is_kept}
 use Rattle.dbpl_database.specs.Reading.{database_of}
 use Rattle.dbpl_database.specs.Spelling.{database_bytes}
 use Rattle.dbpl_store.proofs.Standing.{committed-is, spelt-read}
@@ -92,7 +93,7 @@ pub differs-there :
     slice_get database at ≡ bound_named field.name database → slice_get database at ≡ Some bound →
     (bound.kind ≡ field.kind → is_same ≡ true) → is_same ≡ false → Differs field database
 differs-there field database at bound is_same named got same not_same =
-    (bound, sym named ∙ got, (λ e. false-true is_same not_same (same e)))
+    differs-where field database (bound, sym named ∙ got, (λ e. false-true is_same not_same (same e)))
   where
     false-true : (b : Bool) → b ≡ false → b ≡ true → ⊥
     false-true true e f = cc
@@ -107,7 +108,7 @@ pub bound-there :
 bound-there field database at bound named got same =
     let found : bound_named field.name database ≡ Some bound = sym named ∙ got in
     let passed = found-passes (λ (b : Bound). is_same_name b.name field.name) database bound found in
-    (inl ((bound, found, same), refl), (bound, got, (bytes_eq-Decides bound.name field.name).0 passed, same))
+    (binds-there field database (bound, found, same), (bound, got, (bytes_eq-Decides bound.name field.name).0 passed, same))
 
 pub bound-added :
     (field : Field) (database after : List Bound) (at : ℕ) → bound_named field.name database ≡ None → at ≤ length database →
@@ -115,7 +116,7 @@ pub bound-added :
     Binds field database after
     × ((x : Bound) × (slice_get after at ≡ Some x) × (x.name ≡ field.name) × (x.kind ≡ field.kind))
 bound-added field database after at none within put with_it = (
-  inr (none, with_it),
+  rw with_it (binds-absent field database none),
   (empty_bound field, ap (λ (xs : List Bound). slice_get xs at) put ∙ got-again database at (empty_bound field) within, refl, refl),
 )
 

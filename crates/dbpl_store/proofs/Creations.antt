@@ -2,14 +2,13 @@
 use Rattle.std.proofs.Common.{◌≡◌, ◌⊎◌, inl, inr, ℕ, Bool, true, false, IsTrue, List, [], ◌∷◌, drop, Option, Some, None, Result, Ok, Err, OnOk, refl, ap, subst, ◌∙◌}
 use Rattle.std.specs.Prelude.{slice_index}
 use Rattle.std.specs.Option.{option_and_then}
-use Rattle.dbpl_log.specs.Beginning.{HasSuch, IsBegun}
-use Rattle.dbpl_log.specs.Beginning.{MayBegin as LogMayBegin}
+use Rattle.dbpl_log.specs.Beginning.{HasSuch, IsBegun, MayBegin}
 use Rattle.dbpl_log.specs.Changes.{LeavesLog}
 use Rattle.dbpl_log.specs.Records.{HasText, records_of}
 use Rattle.dbpl_log.specs.Rest.{HasOnly}
 use Rattle.dbpl_log.specs.declared.create_err.CreateErr.{CreateErr}
 use Rattle.dbpl_store.proofs.Standing.{stands-for}
-use Rattle.dbpl_store.specs.Beginning.{LeavesBegun, MayBegin, StandsEmpty}
+use Rattle.dbpl_store.specs.Beginning.{LeavesBegun, MayBecomeEmpty, StandsEmpty}
 use Rattle.dbpl_store.specs.Stands.{newest, stands}
 use Rattle.dbpl_value.specs.declared.bound.Bound.{Bound}
 use Rattle.dbpl_world.proofs.Moments.{moments_weaken}
@@ -49,7 +48,7 @@ stood-none log pages stood = found-none log (records_of log) refl stood
 none-stands : (log pages : List ℕ) → HasSuch are_none log → stands log pages ≡ Some []
 none-stands log pages (records, has, none) = stands-for log pages records [] has (passes-none (newest [] records) none)
 
-to-log : (log pages : List ℕ) → MayBegin log pages → LogMayBegin are_none log
+to-log : (log pages : List ℕ) → MayBecomeEmpty log pages → MayBegin are_none log
 to-log log pages may = record { no_store = may.no_store; harmless = by_cause may.harmless }
   where
     by_cause :
@@ -59,7 +58,7 @@ to-log log pages may = record { no_store = may.no_store; harmless = by_cause may
     by_cause (inr (inl shut)) = inr (inl shut)
     by_cause (inr (inr none)) = inr (inr (stood-none (1 ∷ drop 1 log) pages none))
 
-from-log : (log pages : List ℕ) → LogMayBegin are_none log → MayBegin log pages
+from-log : (log pages : List ℕ) → MayBegin are_none log → MayBecomeEmpty log pages
 from-log log pages may = record { no_store = may.no_store; harmless = by_cause may.harmless }
   where
     by_cause :
@@ -69,15 +68,15 @@ from-log log pages may = record { no_store = may.no_store; harmless = by_cause m
     by_cause (inr (inl shut)) = inr (inl shut)
     by_cause (inr (inr none)) = inr (inr (none-stands (1 ∷ drop 1 log) pages none))
 
-begun : (log pages : List ℕ) → IsBegun are_none log → MayBegin log pages ⊎ (stands log pages ≡ Some [])
+begun : (log pages : List ℕ) → IsBegun are_none log → MayBecomeEmpty log pages ⊎ (stands log pages ≡ Some [])
 begun log pages (inl may) = inl (from-log log pages may)
 begun log pages (inr none) = inr (none-stands log pages none)
 
 -- each image of the log may begin, beside what a read of the pages gives
 pub logs-may-begin :
     (s : State) → ReadsAnImage s.disk →
-    ((log pages : List ℕ) → IsImage s.disk.log log → IsImage s.disk.pages pages → MayBegin log pages) → (log : List ℕ) →
-    IsImage s.disk.log log → LogMayBegin are_none log
+    ((log pages : List ℕ) → IsImage s.disk.log log → IsImage s.disk.pages pages → MayBecomeEmpty log pages) → (log : List ℕ) →
+    IsImage s.disk.log log → MayBegin are_none log
 logs-may-begin s reads may log image = to-log log s.disk.pages.now (may log s.disk.pages.now image reads.pages)
 
 as_begun : (old s : State) → LeavesLog (IsBegun are_none) old s → LeavesBegun old s

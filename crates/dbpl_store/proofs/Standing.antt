@@ -3,7 +3,7 @@ use Rattle.std.proofs.Common.{◌≡◌, ◌+◌, ◌<◌, ◌≤◌, ℕ, true,
 use Rattle.std.proofs.lemmas.List.{drop_all}
 use Rattle.std.specs.Option.{option_and_then, unwrap_or}
 use Rattle.dbpl_database.proofs.DatabaseLaws.{database_of-completes}
-use Rattle.dbpl_database.specs.Databases.{is_database}
+use Rattle.dbpl_value.specs.Databases.{is_database}
 use Rattle.dbpl_database.specs.Reading.{database_of}
 use Rattle.dbpl_database.specs.Spelling.{database_bytes}
 use Rattle.dbpl_log.specs.Records.{records_of}

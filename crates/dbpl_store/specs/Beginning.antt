@@ -7,14 +7,14 @@ use Rattle.dbpl_world.specs.Images.{IsImage}
 
 -- No store, and nothing becomes another than the empty one by chance while the head is written: the text isn't there, or
 -- the gate of the head is shut for sure, or what stood there, were that gate open, would stand for the empty database.
-pub record MayBegin (log pages : List ℕ) : Type 0 where
+pub record MayBecomeEmpty (log pages : List ℕ) : Type 0 where
   pub no_store : HasHead log → ⊥
   pub harmless : (HasText log → ⊥) ⊎ ((slice_index log 0 ≡ 0) ⊎ (stands (1 ∷ drop 1 log) pages ≡ Some []))
 
 -- Whatever a stop leaves is no store yet, and one may still be made of it, or it stands for the empty database. It leaves
 -- of the pages what it could leave at old. Of the world nothing but the disk of the mounted store has changed.
 pub record LeavesBegun (old s : State) : Type 0 where
-  pub left : (log pages : List ℕ) → IsImage s.disk.log log → IsImage s.disk.pages pages → MayBegin log pages ⊎ (stands log pages ≡ Some [])
+  pub left : (log pages : List ℕ) → IsImage s.disk.log log → IsImage s.disk.pages pages → MayBecomeEmpty log pages ⊎ (stands log pages ≡ Some [])
   pub pages : (left : List ℕ) → IsImage s.disk.pages left → IsImage old.disk.pages left
   pub others : s ≡ record old { disk = s.disk }
 

@@ -1,7 +1,7 @@
 -- An open store, as its callers see it.
 use Rattle.std.specs.Prelude.{◌≡◌, ℕ, Bool, List, [], slice_get, Option, Some}
 use Rattle.std.specs.Option.{option_and_then, option_map_or, unwrap_or}
-use Rattle.dbpl_database.specs.Binding.{with_relation}
+use Rattle.dbpl_value.specs.Binding.{with_relation}
 use Rattle.dbpl_database.specs.Reading.{database_of}
 use Rattle.dbpl_log.specs.Rest.{IsAtRest, length_of}
 use Rattle.dbpl_store.specs.Stands.{newest}

@@ -1,8 +1,8 @@
 //! What a transaction does to the database in memory.
 ghost use Rattle.std.specs.Prelude.{◌≡◌, false, IfOk, IfSome, IsSome, IsTrue, MatchBool, OnErr, OnOk, Some, true};
 ghost use Rattle.std.specs.Option.{option_map};
-ghost use Rattle.dbpl_database.specs.Binding.{Binds, Differs, holding};
-ghost use Rattle.dbpl_database.specs.Databases.{are_small, is_kept};
+ghost use Rattle.dbpl_value.specs.Binding.{Binds, Differs, holding};
+ghost use Rattle.dbpl_value.specs.Databases.{are_small, is_kept};
 ghost use Rattle.dbpl_store.specs.Stores.{IsBoundTo, bound_in, committed_of, database_in, is_running, with_bound_relation};
 ghost use Rattle.dbpl_value.specs.Values.{is_of};
 

@@ -4,7 +4,7 @@ ghost use Rattle.dbpl_log.specs.Beginning.{IsForeign, IsFree, begun};
 ghost use Rattle.dbpl_log.specs.Changes.{WritesLog};
 ghost use Rattle.dbpl_log.specs.Records.{HasHead};
 ghost use Rattle.dbpl_log.specs.declared.create_err.CreateErr.TheVariants as errors;
-ghost use Rattle.dbpl_store.specs.Beginning.{LeavesBegun, MayBegin, StandsEmpty};
+ghost use Rattle.dbpl_store.specs.Beginning.{LeavesBegun, MayBecomeEmpty, StandsEmpty};
 ghost use Rattle.dbpl_store.specs.Stands.{LeavesOld};
 ghost use Rattle.dbpl_world.specs.Counts.{OnlyDiskFaults, Rose};
 ghost use Rattle.dbpl_world.specs.History.{now};
@@ -17,7 +17,7 @@ use dbpl_world::World;
 /// Makes an empty store of the mounted one. It takes no memory.
 pub fn create<W: World>(world: &mut W) -> Result<(), CreateErr>
     requires mounted { IsSome (W.mounted world.old) }
-    ensures moments { IsTrue W.tells → ((log pages : List ℕ) → IsImage (now (W.history world.old)).disk.log log → IsImage (now (W.history world.old)).disk.pages pages → MayBegin log pages) →
+    ensures moments { IsTrue W.tells → ((log pages : List ℕ) → IsImage (now (W.history world.old)).disk.log log → IsImage (now (W.history world.old)).disk.pages pages → MayBecomeEmpty log pages) →
         EachMoment (LeavesBegun (now (W.history world.old))) (W.history world.old) (W.history world.new) }
     ensures made { IsTrue W.tells → OnOk result (StandsEmpty (now (W.history world.new))) }
     ensures bytes { IsTrue W.tells → OnOk result ((now (W.history world.new)).disk.log.now ≡ begun (now (W.history world.old)).disk.log.now) }

@@ -1,7 +1,7 @@
 //! The database of the newest record.
 ghost use Rattle.std.specs.Prelude.{[], IfOk, IsTrue, map};
 ghost use Rattle.dbpl_codec.specs.Reading.{Gives};
-ghost use Rattle.dbpl_database.specs.Databases.{is_database};
+ghost use Rattle.dbpl_value.specs.Databases.{is_database};
 ghost use Rattle.dbpl_store.specs.Stands.{newest as newest_of};
 
 use dbpl_base::List;

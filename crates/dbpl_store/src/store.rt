@@ -1,6 +1,6 @@
 ghost use Rattle.std.specs.Prelude.{◌≡◌, IsTrue};
 ghost use Rattle.std.specs.Option.{option_map};
-ghost use Rattle.dbpl_database.specs.Databases.{is_database};
+ghost use Rattle.dbpl_value.specs.Databases.{is_database};
 ghost use Rattle.dbpl_store.specs.Kept.{IsKept};
 
 use dbpl_base::List;

@@ -1,6 +1,6 @@
 //! A store over a world in memory, by its bytes as its form says them.
 ghost use Rattle.std.specs.Prelude.{◌≡◌, IfSome, IsSome, IsTrue, false};
-ghost use Rattle.dbpl_database.specs.Databases.{are_small, is_bound, is_kept};
+ghost use Rattle.dbpl_value.specs.Databases.{are_small, is_bound, is_kept};
 ghost use Rattle.dbpl_store.specs.Stores.{is_running};
 ghost use Rattle.dbpl_value.specs.Values.{is_of};
 ghost use Rattle.dbpl_world.specs.InMemory.{mounted_in};

@@ -1,6 +1,7 @@
 pub mod CountLaws
 mod Examples
 pub mod Fronts
+pub mod Grown
 pub mod Images
 pub mod Moments
 pub mod Puts

@@ -20,6 +20,10 @@ counts_of world = world.counts
 abbrev pub rule_in : MemoryWorld → Rule
 rule_in world = rule_of world.budget
 
+-- the room that it was made with
+abbrev pub room_in : MemoryWorld → ℕ
+room_in world = world.room
+
 -- a world with this input, no stores, and no calls made
 abbrev pub fresh_history : List ℕ → History
 fresh_history input = record { start = record { input = input; said = []; noted = []; mounted = None; disk = settled_store [] []; others = λ name. settled_store [] [] }; events = [] }
@@ -39,3 +43,4 @@ pub record RunsCall {A E : Type 0} (old new : MemoryWorld) (moved : ℕ) (good b
   pub charged : rule_in new ≡ after_call (rule_in old) (if is_ok result then moved else 0)
   pub counted : MatchResult result (λ _. counts_of new ≡ good (counts_of old)) (λ _. counts_of new ≡ bad (counts_of old))
   pub kept : OnErr result (history_of new ≡ history_of old)
+  pub room : room_in new ≡ room_in old

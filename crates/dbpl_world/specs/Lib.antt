@@ -7,7 +7,10 @@ pub mod History
 pub mod Images
 pub mod InShelf
 pub mod InMemory
+pub mod Kept
+pub mod Known
 pub mod Moments
+pub mod Paths
 pub mod Tied
 pub mod Unheard
 pub mod Writing

@@ -1,5 +1,5 @@
 // The record of a world in memory. Its bytes are exactly those that its calls moved.
-ghost use Rattle.std.specs.Prelude.{◌≡◌, ◌+◌, ◌*◌, ◌<◌, ◌≤◌, ◌++◌, [], length, IfOk, OnOk, vec_len, vec_capacity};
+ghost use Rattle.std.specs.Prelude.{◌≡◌, ◌+◌, ◌*◌, ◌<◌, ◌≤◌, ◌++◌, [], ◌∷◌, length, IfOk, OnOk, vec_len, vec_capacity};
 ghost use Rattle.dbpl_world.specs.Calls.{bytes_of, events_of, total_bytes};
 
 use crate::made_call::MadeCall;
@@ -45,6 +45,7 @@ impl CallRecord {
         requires calls { vec_len self.old.calls < vec_capacity self.old.calls }
         requires bytes { vec_len self.old.bytes + length bytes.now ≤ vec_capacity self.old.bytes }
         ensures events { events_recorded self.new ≡ events_recorded self.old ++ events_of made.call bytes.now }
+        ensures kept { self.new.calls.items ≡ self.old.calls.items ++ made ∷ [] }
         ensures calls { vec_len self.new.calls ≡ vec_len self.old.calls + 1 }
         ensures bytes { vec_len self.new.bytes ≡ vec_len self.old.bytes + length bytes.now }
         ensures calls_room { vec_capacity self.old.calls ≤ vec_capacity self.new.calls }

@@ -7,7 +7,9 @@ mod call_record;
 mod counts;
 mod durable;
 mod failed;
+mod file_calls;
 mod file_shelf;
+mod kept_output;
 mod made_call;
 mod memory_shelf;
 mod memory_world;
@@ -20,6 +22,8 @@ mod real_world;
 mod shelf;
 mod shelf_err;
 mod store_bytes;
+mod store_files;
+mod store_paths;
 mod whole;
 
 pub use counts::Counts;

@@ -1,12 +1,13 @@
 // A world in memory. It tells everything: its history is the record of its calls, and what it holds beside that record
 // agrees with it.
-ghost use Rattle.std.specs.Prelude.{◌≡◌, ◌+◌, ◌*◌, ◌≤◌, [], drop, None, option_map, vec_len, vec_capacity};
+ghost use Rattle.std.specs.Prelude.{◌≡◌, ◌+◌, ◌*◌, ◌<◌, ◌≤◌, [], ◌∷◌, ◌++◌, drop, None, option_map, vec_len, vec_capacity};
 ghost use Rattle.dbpl_world.specs.History.{now};
 ghost use Rattle.dbpl_world.specs.CallRecord.{events_recorded};
-ghost use Rattle.dbpl_world.specs.Tied.{history_in, IsTied};
+ghost use Rattle.dbpl_world.specs.Tied.{history_in, IsHeld};
 
 use crate::budget::Budget;
 use crate::call_record::CallRecord;
+use crate::made_call::{Call, MadeCall};
 use crate::store_bytes::StoreBytes;
 use crate::{Counts, NoMemory};
 use std::alloc::{AllocError, Global};
@@ -21,6 +22,7 @@ pub struct MemoryWorld {
     stores: Vec<StoreBytes>,
     put: usize,
     recorded: CallRecord,
+    room: u64,
     budget: Budget,
     counts: Counts,
 
@@ -42,14 +44,15 @@ pub struct MemoryWorld {
     ghost noted_room: { vec_len noted + budget.left ≤ vec_capacity noted },
     ghost log_room: { vec_len log + budget.left ≤ vec_capacity log },
     ghost pages_room: { vec_len pages + budget.left ≤ vec_capacity pages },
-    ghost tied: { IsTied (now (history_in input.items stores.items put (events_recorded recorded))) (option_map (λ bytes. bytes.items) name) (drop taken input.items) said.items noted.items log.items pages.items stores.items },
+    ghost tied: { IsHeld (now (history_in input.items stores.items put (events_recorded recorded))) (option_map (λ bytes. bytes.items) name) (drop taken input.items) said.items noted.items log.items pages.items stores.items },
 }
 
 impl MemoryWorld {
     ghost use Rattle.std.specs.Prelude.{IfOk, OnOk, OnErr};
     ghost use Rattle.dbpl_world.specs.declared.counts.Counts.{Counts};
-    ghost use Rattle.dbpl_world.specs.InMemory.{history_of, mounted_in, counts_of, rule_in, fresh_history, with_store_put};
+    ghost use Rattle.dbpl_world.specs.InMemory.{history_of, mounted_in, counts_of, rule_in, room_in, fresh_history, with_store_put};
     ghost use Rattle.dbpl_world.specs.Tied.{contents_of};
+    ghost use Rattle.dbpl_world.specs.Calls.{ChangesNothing};
 
     /// A world with this input and no stores. The calls with the numbers in `fails` fail, and those past `room`.
     pub fn make(
@@ -62,23 +65,25 @@ impl MemoryWorld {
         ensures mounted { IfOk result (λ world. mounted_in world ≡ None) }
         ensures counts { IfOk result (λ world. counts_of world ≡ record { take_faults = 0; say_faults = 0; note_faults = 0; disk_faults = 0; page_reads = 0 }) }
         ensures rule { IfOk result (λ world. rule_in world ≡ record { fails = fails.now; calls = 0; left = room }) }
+        ensures room { IfOk result (λ world. room_in world ≡ room) }
     {
-        let room = room as usize;
+        let left = room as usize;
         let mut whole_input = Vec::new(alloc);
         whole_input.extend_from_slice(input)?;
         Ok(MemoryWorld {
             input: whole_input,
             stores: Vec::new(alloc),
             put: 0,
-            recorded: CallRecord::new(alloc, room)?,
-            budget: Budget::new(alloc, fails, room)?,
+            recorded: CallRecord::new(alloc, left)?,
+            room,
+            budget: Budget::new(alloc, fails, left)?,
             counts: Counts::ZERO,
             taken: 0,
-            said: Vec::with_capacity(alloc, room)?,
-            noted: Vec::with_capacity(alloc, room)?,
+            said: Vec::with_capacity(alloc, left)?,
+            noted: Vec::with_capacity(alloc, left)?,
             name: None,
-            log: Vec::with_capacity(alloc, room)?,
-            pages: Vec::with_capacity(alloc, room)?,
+            log: Vec::with_capacity(alloc, left)?,
+            pages: Vec::with_capacity(alloc, left)?,
         })
     }
 
@@ -96,6 +101,7 @@ impl MemoryWorld {
         ensures mounted { mounted_in self.new ≡ mounted_in self.old }
         ensures counts { counts_of self.new ≡ counts_of self.old }
         ensures rule { rule_in self.new ≡ rule_in self.old }
+        ensures room { room_in self.new ≡ room_in self.old }
     {
         let store = StoreBytes::with_room(alloc, name.as_bytes(), log, pages, 0)?;
         self.stores.push(store)?;
@@ -120,6 +126,23 @@ impl MemoryWorld {
                 )
             }
             _ => StoreBytes::copy_of(alloc, self.stores.as_slice(), name, self.budget.left),
+        }
+    }
+
+    /// Records a call that changed nothing. Past its room every call fails, and is left out where the record is full.
+    fn record_still(&mut self, number: u64, call: Call)
+        requires still { ChangesNothing call }
+        requires counted { vec_len self.old.recorded.calls < self.old.budget.calls }
+        requires paid { 0 < self.old.budget.left → 64 * (vec_len self.old.recorded.calls + 1) + self.old.budget.left ≤ 64 * vec_capacity self.old.recorded.calls }
+        ensures history { history_of self.new ≡ history_of self.old }
+        ensures mounted { mounted_in self.new ≡ mounted_in self.old }
+        ensures counts { counts_of self.new ≡ counts_of self.old }
+        ensures rule { rule_in self.new ≡ rule_in self.old }
+        ensures room { room_in self.new ≡ room_in self.old }
+        ensures kept { vec_len self.old.recorded.calls < vec_capacity self.old.recorded.calls → self.new.recorded.calls.items ≡ self.old.recorded.calls.items ++ record { number = number; call = call } ∷ [] }
+    {
+        if self.recorded.calls.len() < self.recorded.calls.capacity() {
+            self.recorded.keep(MadeCall { number, call }, &[]);
         }
     }
 

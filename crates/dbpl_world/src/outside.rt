@@ -54,6 +54,15 @@ pub trait World {
 
         ensures same { mounted self.new ≡ mounted self.old }
         ensures counts { OnlySayFaults (counts self.old) (counts self.new) }
+        ensures fine { OnOk result ((counts self.new).say_faults ≡ (counts self.old).say_faults) }
+        ensures cause { OnErr result (Rose (counts self.old).say_faults (counts self.new).say_faults) };
+
+    /// Writes out what was said and is still kept back. What was said stays said.
+    fn flush(&mut self) -> Result<(), Failed>
+        ensures unchanged { IsTrue tells → history self.new ≡ history self.old }
+        ensures same { mounted self.new ≡ mounted self.old }
+        ensures counts { OnlySayFaults (counts self.old) (counts self.new) }
+        ensures fine { OnOk result ((counts self.new).say_faults ≡ (counts self.old).say_faults) }
         ensures cause { OnErr result (Rose (counts self.old).say_faults (counts self.new).say_faults) };
 
     /// Notes some front of the piece, and of a piece that isn't empty at least one byte.

@@ -1,48 +1,33 @@
 // The world of a process: standard input, output and error, and the two files of a store. It tells nothing: what the
-// system does is outside every contract. Its counts and limits are proved.
-ghost use Rattle.std.specs.Prelude.{◌≡◌, ◌+◌, ◌^◌, ◌<◌, ◌≤◌, false, [], None, option_map, IfOk, OnOk, OnErr, length};
-ghost use Rattle.dbpl_world.specs.Counts.{Counts, Rose};
+// system does is outside every contract. Its counts and limits are proved, and that no said byte is lost on the way out.
+ghost use Rattle.std.specs.Prelude.{◌≡◌, ◌+◌, ◌^◌, ◌<◌, ◌≤◌, false, [], ◌++◌, None, Some, Err, option_map, IsSome, IfOk, OnOk, OnErr, length, take};
+ghost use Rattle.dbpl_world.specs.Counts.{Counts, Rose, OnlyTakeFaults, OnlySayFaults, OnlyNoteFaults, OnlyDiskFaults};
+ghost use Rattle.dbpl_world.specs.Kept.{kept_in};
+ghost use Rattle.std.specs.Io.KnownBytes.{Appends};
 ghost use Rattle.dbpl_world.specs.Unheard.{silence, unheard};
 
 use crate::counts::raised;
+use crate::kept_output::{KeptOutput, write_some};
+use crate::store_files::StoreFiles;
+use crate::store_paths::store_paths;
 use crate::{Counts, Failed, MountErr, Part, World};
-use std::alloc::{AllocError, Global};
+use std::alloc::Global;
 use std::fs::File;
-use std::io::{Print, Read};
-use std::os::unix::fs::FileExt;
+use std::io::{ErrorKind, Read, Write};
 use std::rt::Files;
 
-/// The greatest place that a file may have.
-const GREATEST: u64 = i64::MAX as u64;
-
+/// What is said is kept back until an array is full, or another call but `say`, `size` and `read_at` comes.
 #[derive(Drop)]
 pub struct RealWorld<R, I, O, E> {
     rt: R,
     input: I,
-    output: O,
+    output: KeptOutput<O>,
     errors: E,
     store: Option<StoreFiles>,
     counts: Counts,
 }
 
-/// The files of the mounted store.
-#[derive(Drop)]
-struct StoreFiles {
-    name: Vec<u8>,
-    log: File,
-    pages: File,
-}
-
-impl StoreFiles {
-    fn part(&self, part: Part) -> &File {
-        match part {
-            Part::Log => &self.log,
-            Part::Pages => &self.pages,
-        }
-    }
-}
-
-impl<R: Files<File = File>, I: Read, O: Print, E: Print> RealWorld<R, I, O, E> {
+impl<R: Files<File = File>, I: Read, O: Write, E: Write> RealWorld<R, I, O, E> {
     /// A world with no store mounted.
     pub fn new(rt: R, input: I, output: O, errors: E) -> Self
         ensures mounted { ⟦<RealWorld<R, I, O, E> as World>⟧.mounted result ≡ None }
@@ -51,7 +36,7 @@ impl<R: Files<File = File>, I: Read, O: Print, E: Print> RealWorld<R, I, O, E> {
         RealWorld {
             rt,
             input,
-            output,
+            output: KeptOutput::new(output),
             errors,
             store: None,
             counts: Counts::ZERO,
@@ -59,7 +44,7 @@ impl<R: Files<File = File>, I: Read, O: Print, E: Print> RealWorld<R, I, O, E> {
     }
 }
 
-impl<R: Files<File = File>, I: Read, O: Print, E: Print> World for RealWorld<R, I, O, E> {
+impl<R: Files<File = File>, I: Read, O: Write, E: Write> World for RealWorld<R, I, O, E> {
     ghost tells = { false };
 
     ghost history = { λ _. silence };
@@ -72,11 +57,27 @@ impl<R: Files<File = File>, I: Read, O: Print, E: Print> World for RealWorld<R, 
 
     ghost reads_an_image = { λ _ told. unheard told };
 
-    fn mount(&mut self, alloc: Global, name: &str) -> Result<(), MountErr> {
-        let Ok((bytes, log, pages)) = paths(alloc, name) else {
+    fn mount(&mut self, alloc: Global, name: &str) -> Result<(), MountErr>
+        ensures none { kept_in self.new.output ≡ [] }
+        ensures ok { OnOk result (⟦<RealWorld<R, I, O, E> as World>⟧.mounted self.new ≡ Some name.now) }
+        ensures err { OnErr result (⟦<RealWorld<R, I, O, E> as World>⟧.mounted self.new ≡ ⟦<RealWorld<R, I, O, E> as World>⟧.mounted self.old) }
+        ensures memory { result ≡ Err MountErr.Memory → self.new.counts ≡ self.old.counts }
+        ensures counts { OnlyDiskFaults self.old.counts self.new.counts }
+        ensures cause { result ≡ Err MountErr.Failed → Rose self.old.counts.disk_faults self.new.counts.disk_faults }
+    {
+        let _ = self.output.write_out();
+        let is_unsure = match &self.store {
+            Some(store) if store.name.as_slice() == name.as_bytes() => return Ok(()),
+            Some(store) => store.is_unsure(),
+            None => false,
+        };
+        let Ok(paths) = store_paths(alloc, name) else {
             return Err(MountErr::Memory);
         };
-        match open_store(&self.rt, bytes, log.as_str(), pages.as_str()) {
+        let Ok(bytes) = name.as_bytes().to_vec(alloc) else {
+            return Err(MountErr::Memory);
+        };
+        match StoreFiles::open(&self.rt, bytes, paths, is_unsure) {
             Ok(store) => {
                 self.store = Some(store);
                 Ok(())
@@ -88,39 +89,62 @@ impl<R: Files<File = File>, I: Read, O: Print, E: Print> World for RealWorld<R, 
         }
     }
 
-    fn take(&mut self, room: &mut [u8]) -> Result<usize, Failed> {
-        match self.input.read(room) {
-            Ok(count) => Ok(count),
-            Err(_) => {
-                self.counts.take_faults = raised(self.counts.take_faults);
-                Err(Failed)
-            }
-        }
+    fn take(&mut self, room: &mut [u8]) -> Result<usize, Failed>
+        ensures none { kept_in self.new.output ≡ [] }
+        ensures count { IfOk result (λ n. n ≤ length room.old) }
+        ensures same { ⟦<RealWorld<R, I, O, E> as World>⟧.mounted self.new ≡ ⟦<RealWorld<R, I, O, E> as World>⟧.mounted self.old }
+        ensures counts { OnlyTakeFaults self.old.counts self.new.counts }
+        ensures cause { OnErr result (Rose self.old.counts.take_faults self.new.counts.take_faults) }
+    {
+        let _ = self.output.write_out();
+        counted(
+            read_some(&mut self.input, room),
+            &mut self.counts.take_faults,
+        )
     }
 
-    fn say(&mut self, piece: &[u8]) -> Result<usize, Failed> {
-        match self.output.write_some(piece) {
-            Ok(count) if count > 0 || piece.is_empty() => Ok(count),
-            _ => {
-                self.counts.say_faults = raised(self.counts.say_faults);
-                Err(Failed)
-            }
-        }
+    fn say(&mut self, piece: &[u8]) -> Result<usize, Failed>
+        ensures count { IfOk result (λ n. (n ≤ length piece.now) × (0 < length piece.now → 0 < n)) }
+
+        // Each byte said is kept back, behind those before it, which are kept too or written.
+        ensures behind { IfOk result (λ n. length (kept_in self.old.output) < 8192 → (kept_in self.new.output ≡ kept_in self.old.output ++ take n piece.now) × (self.new.output.output ≡ self.old.output.output)) }
+        ensures full { IfOk result (λ n. length (kept_in self.old.output) ≡ 8192 → (kept_in self.new.output ≡ take n piece.now) × Appends (O.contents self.old.output.output) (O.contents self.new.output.output) (kept_in self.old.output)) }
+        ensures same { ⟦<RealWorld<R, I, O, E> as World>⟧.mounted self.new ≡ ⟦<RealWorld<R, I, O, E> as World>⟧.mounted self.old }
+        ensures counts { OnlySayFaults self.old.counts self.new.counts }
+        ensures fine { OnOk result (self.new.counts.say_faults ≡ self.old.counts.say_faults) }
+        ensures cause { OnErr result (Rose self.old.counts.say_faults self.new.counts.say_faults) }
+    {
+        counted(self.output.keep(piece), &mut self.counts.say_faults)
     }
 
-    fn note(&mut self, piece: &[u8]) -> Result<usize, Failed> {
-        match self.errors.write_some(piece) {
-            Ok(count) if count > 0 || piece.is_empty() => Ok(count),
-            _ => {
-                self.counts.note_faults = raised(self.counts.note_faults);
-                Err(Failed)
-            }
-        }
+    fn flush(&mut self) -> Result<(), Failed>
+        ensures none { kept_in self.new.output ≡ [] }
+        ensures written { OnOk result (Appends (O.contents self.old.output.output) (O.contents self.new.output.output) (kept_in self.old.output)) }
+        ensures same { ⟦<RealWorld<R, I, O, E> as World>⟧.mounted self.new ≡ ⟦<RealWorld<R, I, O, E> as World>⟧.mounted self.old }
+        ensures counts { OnlySayFaults self.old.counts self.new.counts }
+        ensures fine { OnOk result (self.new.counts.say_faults ≡ self.old.counts.say_faults) }
+        ensures cause { OnErr result (Rose self.old.counts.say_faults self.new.counts.say_faults) }
+    {
+        counted(self.output.write_out(), &mut self.counts.say_faults)
+    }
+
+    fn note(&mut self, piece: &[u8]) -> Result<usize, Failed>
+        ensures none { kept_in self.new.output ≡ [] }
+        ensures count { IfOk result (λ n. (n ≤ length piece.now) × (0 < length piece.now → 0 < n)) }
+        ensures same { ⟦<RealWorld<R, I, O, E> as World>⟧.mounted self.new ≡ ⟦<RealWorld<R, I, O, E> as World>⟧.mounted self.old }
+        ensures counts { OnlyNoteFaults self.old.counts self.new.counts }
+        ensures cause { OnErr result (Rose self.old.counts.note_faults self.new.counts.note_faults) }
+    {
+        let _ = self.output.write_out();
+        counted(
+            write_some(&mut self.errors, piece),
+            &mut self.counts.note_faults,
+        )
     }
 
     fn size(&mut self, part: Part) -> Result<u64, Failed> {
         let size = match &self.store {
-            Some(store) => size_of(store.part(part)),
+            Some(store) => store.size(part),
             None => unreachable!(),
         };
         counted(size, &mut self.counts.disk_faults)
@@ -128,7 +152,7 @@ impl<R: Files<File = File>, I: Read, O: Print, E: Print> World for RealWorld<R, 
 
     fn read_at(&mut self, part: Part, at: u64, into: &mut [u8]) -> Result<usize, Failed> {
         let read = match &self.store {
-            Some(store) => read_whole(store.part(part), at, into),
+            Some(store) => store.read(part, at, into),
             None => unreachable!(),
         };
         if part == Part::Pages {
@@ -137,17 +161,32 @@ impl<R: Files<File = File>, I: Read, O: Print, E: Print> World for RealWorld<R, 
         counted(read, &mut self.counts.disk_faults)
     }
 
-    fn write_at(&mut self, part: Part, at: u64, bytes: &[u8]) -> Result<(), Failed> {
-        let written = match &self.store {
-            Some(store) => write_whole(store.part(part), at, bytes),
+    fn write_at(&mut self, part: Part, at: u64, bytes: &[u8]) -> Result<(), Failed>
+        requires mounted { IsSome (⟦<RealWorld<R, I, O, E> as World>⟧.mounted self.old) }
+        ensures none { kept_in self.new.output ≡ [] }
+        ensures end { OnOk result (at + length bytes.now < 2 ^ 63) }
+        ensures same { ⟦<RealWorld<R, I, O, E> as World>⟧.mounted self.new ≡ ⟦<RealWorld<R, I, O, E> as World>⟧.mounted self.old }
+        ensures counts { OnlyDiskFaults self.old.counts self.new.counts }
+        ensures cause { OnErr result (Rose self.old.counts.disk_faults self.new.counts.disk_faults) }
+    {
+        let _ = self.output.write_out();
+        let written = match &mut self.store {
+            Some(store) => store.write(&self.rt, part, at, bytes),
             None => unreachable!(),
         };
         counted(written, &mut self.counts.disk_faults)
     }
 
-    fn sync(&mut self, part: Part) -> Result<(), Failed> {
-        let synced = match &self.store {
-            Some(store) => sync_file(store.part(part)),
+    fn sync(&mut self, part: Part) -> Result<(), Failed>
+        requires mounted { IsSome (⟦<RealWorld<R, I, O, E> as World>⟧.mounted self.old) }
+        ensures none { kept_in self.new.output ≡ [] }
+        ensures same { ⟦<RealWorld<R, I, O, E> as World>⟧.mounted self.new ≡ ⟦<RealWorld<R, I, O, E> as World>⟧.mounted self.old }
+        ensures counts { OnlyDiskFaults self.old.counts self.new.counts }
+        ensures cause { OnErr result (Rose self.old.counts.disk_faults self.new.counts.disk_faults) }
+    {
+        let _ = self.output.write_out();
+        let synced = match &mut self.store {
+            Some(store) => store.sync(&self.rt, part),
             None => unreachable!(),
         };
         counted(synced, &mut self.counts.disk_faults)
@@ -157,9 +196,9 @@ impl<R: Files<File = File>, I: Read, O: Print, E: Print> World for RealWorld<R, 
 /// The same outcome, with a fault counted.
 fn counted<T: Drop>(outcome: Result<T, Failed>, faults: &mut u64) -> Result<T, Failed>
     ensures same { result ≡ outcome }
-    ensures fine { OnOk outcome (faults.new ≡ faults.old) }
+    ensures fine { OnOk result (faults.new ≡ faults.old) }
     ensures later { faults.old ≤ faults.new }
-    ensures cause { OnErr outcome (Rose faults.old faults.new) }
+    ensures cause { OnErr result (Rose faults.old faults.new) }
 {
     if outcome.is_err() {
         *faults = raised(*faults);
@@ -167,75 +206,16 @@ fn counted<T: Drop>(outcome: Result<T, Failed>, faults: &mut u64) -> Result<T, F
     outcome
 }
 
-/// The bytes of a store's name, and the paths of its two files.
-fn paths(alloc: Global, name: &str) -> Result<(Vec<u8>, String, String), AllocError>
-    ensures { IfOk result (λ paths. paths.0.items ≡ name.now) }
+/// Reads some bytes of the input, and none only at its end.
+fn read_some<I: Read>(input: &mut I, room: &mut [u8]) -> Result<usize, Failed>
+    ensures { IfOk result (λ count. count ≤ length room.old) }
 {
-    let bytes = name.as_bytes().to_vec(alloc)?;
-    let log = format!(in alloc; "{name}.log")?;
-    let pages = format!(in alloc; "{name}.pages")?;
-    Ok((bytes, log, pages))
-}
-
-/// Opens the two files, and makes them where they are absent.
-fn open_store<R: Files<File = File>>(
-    rt: &R,
-    name: Vec<u8>,
-    log: &str,
-    pages: &str,
-) -> Result<StoreFiles, Failed>
-    ensures { IfOk result (λ store. store.name ≡ name) }
-{
-    let mut how = File::options();
-    how.read(true).write(true).create(true);
-    match (how.open(rt, log), how.open(rt, pages)) {
-        (Ok(log), Ok(pages)) => Ok(StoreFiles { name, log, pages }),
-        _ => Err(Failed),
-    }
-}
-
-fn size_of(file: &File) -> Result<u64, Failed>
-    ensures { IfOk result (λ size. size < 2 ^ 63) }
-{
-    match file.metadata() {
-        Ok(data) if data.len() <= GREATEST => Ok(data.len()),
-        _ => Err(Failed),
-    }
-}
-
-/// Reads as many bytes as there are up to the room.
-fn read_whole(file: &File, at: u64, into: &mut [u8]) -> Result<usize, Failed>
-    ensures { IfOk result (λ count. count ≤ length into.old) }
-{
-    let mut done = 0;
-    while done < into.len() {
-        let place = at.saturating_add(done as u64);
-        if place > GREATEST {
-            break;
-        }
-        match file.read_at(&mut into[done..], place) {
-            Ok(0) => break,
-            Ok(count) => done += count,
+    for _ in 0..u64::MAX {
+        match input.read(room) {
+            Ok(count) => return Ok(count),
+            Err(error) if error.kind() == ErrorKind::Interrupted => {}
             Err(_) => return Err(Failed),
         }
     }
-    Ok(done)
-}
-
-/// Writes all the bytes, with zeros in a gap.
-fn write_whole(file: &File, at: u64, bytes: &[u8]) -> Result<(), Failed>
-    ensures { OnOk result (at + length bytes.now < 2 ^ 63) }
-{
-    let end = at.saturating_add(bytes.len() as u64);
-    if end > GREATEST {
-        return Err(Failed);
-    }
-    if bytes.is_empty() && at > size_of(file)? {
-        return file.set_len(at).map_err(|_| Failed);
-    }
-    file.write_all_at(bytes, at).map_err(|_| Failed)
-}
-
-fn sync_file(file: &File) -> Result<(), Failed> {
-    file.sync_all().map_err(|_| Failed)
+    Err(Failed)
 }

@@ -12,11 +12,11 @@ pub struct StoreBytes {
 }
 
 impl StoreBytes {
-    ghost use Rattle.dbpl_world.specs.Tied.{newest, contents_of};
+    ghost use Rattle.dbpl_world.specs.Tied.{last_contents_of, contents_of};
 
     /// The last store of that name.
     pub fn last_of<'a>(stores: &'a [StoreBytes], name: &[u8]) -> Option<&'a StoreBytes>
-        ensures { MatchOption result (newest stores.now name.now ≡ ([], [])) (λ store. newest stores.now name.now ≡ (store.now.log.items, store.now.pages.items)) }
+        ensures { MatchOption result (last_contents_of stores.now name.now ≡ ([], [])) (λ store. last_contents_of stores.now name.now ≡ (store.now.log.items, store.now.pages.items)) }
     {
         let mut found = None;
         for store in stores {
@@ -35,7 +35,7 @@ impl StoreBytes {
         room: usize,
     ) -> Result<StoreBytes, AllocError>
         ensures name { IfOk result (λ store. store.name.items ≡ name.now) }
-        ensures parts { IfOk result (λ store. newest stores.now name.now ≡ (store.log.items, store.pages.items)) }
+        ensures parts { IfOk result (λ store. last_contents_of stores.now name.now ≡ (store.log.items, store.pages.items)) }
         ensures room { IfOk result (λ store. (vec_len store.log + room ≤ vec_capacity store.log) × (vec_len store.pages + room ≤ vec_capacity store.pages)) }
     {
         match StoreBytes::last_of(stores, name) {
@@ -81,7 +81,7 @@ impl StoreBytes {
         pages: Vec<u8>,
     )
         requires room { vec_len stores.old < vec_capacity stores.old }
-        ensures newest { (other : List ℕ) → newest stores.new.items other ≡ contents_of (option_map (λ bytes. bytes.items) name) (log.items, pages.items) stores.old.items other }
+        ensures contents { (other : List ℕ) → last_contents_of stores.new.items other ≡ contents_of (option_map (λ bytes. bytes.items) name) (log.items, pages.items) stores.old.items other }
         ensures kept { take (vec_len stores.old) stores.new.items ≡ stores.old.items }
         ensures longer { vec_len stores.old ≤ vec_len stores.new }
         ensures by_one { vec_len stores.new ≤ vec_len stores.old + 1 }

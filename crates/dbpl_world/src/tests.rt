@@ -1,5 +1,5 @@
 // The calls in an order of use, with values from the description of the world.
-ghost use Rattle.std.specs.Prelude.{IsSome};
+ghost use Rattle.std.specs.Prelude.{◌≡◌, IsSome};
 
 use super::*;
 use std::fs;
@@ -29,13 +29,14 @@ fn room_in_memory(rt: HostRuntime) -> Result<(), Fail> {
 }
 
 // Writes behind a gap, syncs and reads back.
-fn round_trip<W: World>(world: &mut W) -> Result<(u64, usize, [u8; 6]), Failed>
+fn round_trip<W: World>(world: &mut W, part: Part) -> Result<(u64, usize, [u8; 6]), Failed>
     requires { IsSome (W.mounted world.old) }
+    ensures { W.mounted world.new ≡ W.mounted world.old }
 {
-    write_and_sync(world, Part::Log, 2, b"xyz")?;
-    let size = world.size(Part::Log)?;
+    write_and_sync(world, part, 2, b"xyz")?;
+    let size = world.size(part)?;
     let mut read = [9; 6];
-    let count = world.read_at(Part::Log, 0, &mut read)?;
+    let count = world.read_at(part, 0, &mut read)?;
     Ok((size, count, read))
 }
 
@@ -46,7 +47,7 @@ fn store_in_memory(rt: HostRuntime) -> Result<(), Fail> {
     assert_eq!(rt; world.put_store(alloc, "s", b"1", b""), Ok(()));
     assert!(rt; world.mount(alloc, "s").is_ok());
     assert_eq!(rt;
-        round_trip(&mut world),
+        round_trip(&mut world, Part::Log),
         Ok((5, 5, [b'1', 0, b'x', b'y', b'z', 9]))
     );
     Ok(())
@@ -54,13 +55,48 @@ fn store_in_memory(rt: HostRuntime) -> Result<(), Fail> {
 
 #[test]
 fn store_in_files(rt: HostRuntime) -> Result<(), Fail> {
+    fs::create_dir(&rt, "stores")?;
     let mut world = RealWorld::new(rt, rt.stdin(), rt.stdout(), rt.stderr());
-    assert!(rt; world.mount(rt.alloc(), "s").is_ok());
+    assert!(rt; world.mount(rt.alloc(), "stores/s").is_ok());
+    assert_eq!(rt; world.size(Part::Pages), Ok(0));
+    assert!(rt; !fs::exists(&rt, "stores/s.log")?);
+    let trip = Ok((5, 5, [0, 0, b'x', b'y', b'z', 9]));
+    assert_eq!(rt; round_trip(&mut world, Part::Log), trip);
+    assert_eq!(rt; round_trip(&mut world, Part::Pages), trip);
     assert_eq!(rt;
-        round_trip(&mut world),
-        Ok((5, 5, [0, 0, b'x', b'y', b'z', 9]))
+        fs::read(&rt, "stores/s.log")?.as_slice(),
+        b"\0\0xyz".as_slice()
     );
-    assert_eq!(rt; fs::read(&rt, "s.log")?.as_slice(), b"\0\0xyz".as_slice());
+    assert_eq!(rt;
+        fs::read(&rt, "stores/s.pages")?.as_slice(),
+        b"\0\0xyz".as_slice()
+    );
+    Ok(())
+}
+
+#[test]
+fn store_in_use(rt: HostRuntime) -> Result<(), Fail> {
+    fs::create_dir(&rt, "held")?;
+    let mut first = RealWorld::new(rt, rt.stdin(), rt.stdout(), rt.stderr());
+    assert!(rt; first.mount(rt.alloc(), "held/s").is_ok());
+    assert!(rt; round_trip(&mut first, Part::Log).is_ok());
+    let mut second = RealWorld::new(rt, rt.stdin(), rt.stdout(), rt.stderr());
+    assert_eq!(rt; second.mount(rt.alloc(), "held/s"), Err(MountErr::Failed));
+    Ok(())
+}
+
+#[test]
+fn real_input_and_output(rt: HostRuntime) -> Result<(), Fail> {
+    let mut said = Vec::new(rt.alloc());
+    let mut world = RealWorld::new(rt, b"abc".as_slice(), &mut said, rt.stderr());
+    assert_eq!(rt; say_all(&mut world, &[b'p'; 8193]), Ok(()));
+    let mut room = [0; 2];
+    assert_eq!(rt; (world.take(&mut room), room), (Ok(2), [b'a', b'b']));
+    assert_eq!(rt; say_all(&mut world, b"yes"), Ok(()));
+    assert_eq!(rt; world.flush(), Ok(()));
+    drop(world);
+    assert_eq!(rt; said.len(), 8196);
+    assert!(rt; said.as_slice().ends_with(b"pppyes"));
     Ok(())
 }
 
@@ -83,15 +119,15 @@ fn shelf_in_memory(rt: HostRuntime) -> Result<(), Fail> {
 
 #[test]
 fn shelf_of_files(rt: HostRuntime) -> Result<(), Fail> {
-    fs::write(&rt, "a.mod", "text")?;
-    fs::create_dir(&rt, "folder")?;
+    fs::create_dir(&rt, "shelf")?;
+    fs::write(&rt, "shelf/a.mod", "text")?;
     let mut shelf = FileShelf::new(rt);
     let mut into = Vec::new(rt.alloc());
     for (name, limit, want) in [
-        ("a.mod", 4, Ok(true)),
-        ("b.mod", 4, Ok(false)),
-        ("a.mod", 3, Err(ShelfErr::TooLong)),
-        ("folder", 4, Err(ShelfErr::Failed)),
+        ("shelf/a.mod", 4, Ok(true)),
+        ("shelf/b.mod", 4, Ok(false)),
+        ("shelf/a.mod", 3, Err(ShelfErr::TooLong)),
+        ("shelf", 4, Err(ShelfErr::Failed)),
     ] {
         assert_eq!(rt; shelf.fetch(rt.alloc(), name, limit, &mut into), want);
     }

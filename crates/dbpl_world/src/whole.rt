@@ -11,6 +11,7 @@ pub fn say_all<W: World>(world: &mut W, bytes: &[u8]) -> Result<(), Failed>
     ensures err { IsTrue W.tells → OnErr result ((n : ℕ) × (W.history world.new ≡ more (W.history world.old) (map Said (take n bytes.now)))) }
     ensures same { W.mounted world.new ≡ W.mounted world.old }
     ensures counts { OnlySayFaults (W.counts world.old) (W.counts world.new) }
+    ensures fine { OnOk result ((W.counts world.new).say_faults ≡ (W.counts world.old).say_faults) }
     ensures cause { OnErr result (Rose (W.counts world.old).say_faults (W.counts world.new).say_faults) }
 {
     for byte in bytes {

@@ -1,9 +1,9 @@
 // The calls of a world in memory. Each is charged first; one that fails changes nothing but its count.
-ghost use Rattle.std.specs.Prelude.{◌≡◌, ◌≢◌, ℕ, ◌+◌, ◌-◌, ◌^◌, ◌<◌, ◌≤◌, ◌⊎◌, ◌↔◌, min, Bool, true, List, [], ◌∷◌, ◌++◌, map, length, take, drop, Option, Some, IsTrue, IsSome, IfOk, OnOk, OnErr};
+ghost use Rattle.std.specs.Prelude.{◌≡◌, ◌≢◌, ℕ, ◌+◌, ◌-◌, ◌^◌, ◌<◌, ◌≤◌, ◌⊎◌, ◌↔◌, min, Bool, true, List, [], ◌∷◌, ◌++◌, map, length, take, drop, Option, Some, IsTrue, IsSome, IsOk, IfOk, OnOk, OnErr};
 ghost use Rattle.dbpl_world.specs.Images.{IsSmeared};
 ghost use Rattle.dbpl_world.specs.History.{History, Mounted, Took, Said, Noted, Wrote, Smeared, Synced, by_part, part_of, more, now};
 ghost use Rattle.dbpl_world.specs.Counts.{Rose, OnlyTakeFaults, OnlySayFaults, OnlyNoteFaults, OnlyDiskFaults, OnlyReads, take_failed, say_failed, note_failed, disk_failed, part_read, unraised};
-ghost use Rattle.dbpl_world.specs.InMemory.{history_of, mounted_in, counts_of, rule_in, RunsCall};
+ghost use Rattle.dbpl_world.specs.InMemory.{history_of, mounted_in, counts_of, rule_in, room_in, RunsCall};
 ghost use Rattle.dbpl_world.specs.Budget.{MustFail, after_call};
 ghost use Rattle.std.proofs.Common.{sym};
 
@@ -43,10 +43,13 @@ impl World for MemoryWorld {
         ensures memory { result ≡ Err MountErr.Memory → counts_of self.new ≡ counts_of self.old }
         ensures uncharged { result ≡ Err MountErr.Memory → rule_in self.new ≡ rule_in self.old }
         ensures uncounted { OnOk result (counts_of self.new ≡ counts_of self.old) }
+        ensures room { room_in self.new ≡ room_in self.old }
     {
         if !self.budget.allows(0, 0) {
+            let number = self.budget.calls;
             let _ = self.budget.charge(0, 0);
             self.counts.disk_faults = raised(self.counts.disk_faults);
+            self.record_still(number, Call::Failed);
             return Err(MountErr::Failed);
         }
         let Ok(opened) = self.opened(alloc, name.as_bytes()) else {
@@ -82,6 +85,7 @@ impl World for MemoryWorld {
         let number = self.budget.calls;
         if !self.budget.charge(0, 0) {
             self.counts.take_faults = raised(self.counts.take_faults);
+            self.record_still(number, Call::Failed);
             return Err(Failed);
         }
         let count = read_into(self.input.as_slice(), self.taken as u64, room);
@@ -104,6 +108,7 @@ impl World for MemoryWorld {
         let number = self.budget.calls;
         if !self.budget.charge(0, piece.len()) {
             self.counts.say_faults = raised(self.counts.say_faults);
+            self.record_still(number, Call::Failed);
             return Err(Failed);
         }
         let _ = self.said.extend_from_slice(piece);
@@ -113,6 +118,18 @@ impl World for MemoryWorld {
         };
         self.recorded.keep(made, piece);
         Ok(piece.len())
+    }
+
+    // Nothing is kept back, so the world stays as it was, and no number is spent.
+    fn flush(&mut self) -> Result<(), Failed>
+        ensures done { IsOk result }
+        ensures still { self.new ≡ self.old }
+        ensures unchanged { history_of self.new ≡ history_of self.old }
+        ensures same { mounted_in self.new ≡ mounted_in self.old }
+        ensures counts { OnlySayFaults (counts_of self.old) (counts_of self.new) }
+        ensures uncharged { rule_in self.new ≡ rule_in self.old }
+    {
+        Ok(())
     }
 
     fn note(&mut self, piece: &[u8]) -> Result<usize, Failed>
@@ -125,6 +142,7 @@ impl World for MemoryWorld {
         let number = self.budget.calls;
         if !self.budget.charge(0, piece.len()) {
             self.counts.note_faults = raised(self.counts.note_faults);
+            self.record_still(number, Call::Failed);
             return Err(Failed);
         }
         let _ = self.noted.extend_from_slice(piece);
@@ -145,11 +163,15 @@ impl World for MemoryWorld {
         ensures counts { OnlyDiskFaults (counts_of self.old) (counts_of self.new) }
         ensures run { RunsCall self.old self.new 0 unraised disk_failed result }
     {
+        let number = self.budget.calls;
         if !self.budget.charge(0, 0) {
             self.counts.disk_faults = raised(self.counts.disk_faults);
+            self.record_still(number, Call::Failed);
             return Err(Failed);
         }
-        Ok(part_bytes(&self.log, &self.pages, part).len() as u64)
+        let size = part_bytes(&self.log, &self.pages, part).len() as u64;
+        self.record_still(number, Call::Size(part));
+        Ok(size)
     }
 
     fn read_at(&mut self, part: Part, at: u64, into: &mut [u8]) -> Result<usize, Failed>
@@ -161,12 +183,15 @@ impl World for MemoryWorld {
         ensures counts { OnlyReads part (counts_of self.old) (counts_of self.new) }
         ensures run { RunsCall self.old self.new 0 (part_read part) disk_failed result }
     {
+        let number = self.budget.calls;
         if !self.budget.charge(0, 0) {
             self.counts.disk_faults = raised(self.counts.disk_faults);
+            self.record_still(number, Call::Failed);
             return Err(Failed);
         }
         let count = read_into(part_bytes(&self.log, &self.pages, part), at, into);
         self.counts.page_reads = page_reads_after(part, self.counts.page_reads);
+        self.record_still(number, Call::Read(part, at, count));
         Ok(count)
     }
 
@@ -183,6 +208,7 @@ impl World for MemoryWorld {
         let gap = at.saturating_sub(size as u64);
         if !self.budget.charge(gap, bytes.len()) {
             self.counts.disk_faults = raised(self.counts.disk_faults);
+            self.record_still(number, Call::Failed);
             return Err(Failed);
         }
         overwrite_part(&mut self.log, &mut self.pages, part, at as usize, bytes);
@@ -204,6 +230,7 @@ impl World for MemoryWorld {
         let number = self.budget.calls;
         if !self.budget.charge(0, 0) {
             self.counts.disk_faults = raised(self.counts.disk_faults);
+            self.record_still(number, Call::Failed);
             return Err(Failed);
         }
         let made = MadeCall {

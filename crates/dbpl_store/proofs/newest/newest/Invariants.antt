@@ -1,5 +1,5 @@
 use Rattle.std.proofs.Common.{◌≡◌, [], drop, map, true}
-use Rattle.dbpl_database.specs.Databases.{is_database}
+use Rattle.dbpl_value.specs.Databases.{is_database}
 use Rattle.dbpl_store.specs.Stands.{newest}
 use Rattle.dbpl_store.proofs.newest.newest.Given as goal
 

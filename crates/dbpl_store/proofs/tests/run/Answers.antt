@@ -1,6 +1,6 @@
 use Rattle.std.proofs.Common.{◌&&◌}
 use Rattle.std.specs.Cmp.{first_so, second_so}
-use Rattle.dbpl_database.specs.Databases.{are_small, is_kept}
+use Rattle.dbpl_value.specs.Databases.{are_small, is_kept}
 use Rattle.dbpl_value.specs.Values.{is_of}
 use Rattle.dbpl_store.proofs.tests.run.Goals as goal
 

@@ -1,7 +1,7 @@
 use Rattle.std.proofs.Common.{◌≡◌, None, Some, slice_get, refl, rules, ap}
 use Rattle.std.proofs.lemmas.Option.{slice_get_read}
 use Rattle.std.specs.Option.{option_and_then}
-use Rattle.dbpl_database.specs.Binding.{bound_named}
+use Rattle.dbpl_value.specs.Binding.{bound_named}
 use Rattle.dbpl_store.proofs.Changing.{added-sound, bound-added, bound-there, differs-there, named-none, taken-back}
 use Rattle.dbpl_store.proofs.store.Store.bind.Goals as goal
 
@@ -11,7 +11,7 @@ returns-then-not-same_type-clause-bound c =
     slice_get_read c.args.self.now.database _ c.in-Some.at c.index-as_slice-at.result refl (search rules) (search rules)
     in (
       differs-there c.args.rel.now c.args.self.now.database c.in-Some.at c.index-as_slice-at.result c.same_type.result
-          (search rules) got (λ e. c.same_type.ensures.1 (rw (← c.index-as_slice-at.is) e)) (search rules),
+          (search rules) got (λ e. c.same_type.ensures.equal.1 (rw (← c.index-as_slice-at.is) e)) (search rules),
       refl,
     )
 
@@ -21,7 +21,7 @@ returns-in-Some-clause-bound c =
     slice_get_read c.args.self.now.database _ c.in-Some.at c.index-as_slice-at.result refl (search rules) (search rules)
     in
     bound-there c.args.rel.now c.args.self.now.database c.in-Some.at c.index-as_slice-at.result
-    (search rules) got (rw c.index-as_slice-at.is (c.same_type.ensures.0 (search rules)))
+    (search rules) got (rw c.index-as_slice-at.is (c.same_type.ensures.equal.0 (search rules)))
 
 pub invariant_of-self-in-Ok : goal.invariant_of-self-in-Ok
 invariant_of-self-in-Ok c =
