@@ -21,9 +21,9 @@ use Rattle.dbpl_value.specs.declared.value.Value.TheVariants as value
 use Rattle.dbpl_codec.proofs.ByteLaws.{at_least, at_most, unsigned-byte, unsigned-word, word_of-below}
 use Rattle.dbpl_codec.proofs.ByteOrder.{four_bytes, raised, then-Equal}
 use Rattle.dbpl_codec.proofs.CompleteLaws.{number_is, number_of-Num}
-use Rattle.dbpl_codec.proofs.TypeKinds.{by_kind}
+use Rattle.dbpl_value.proofs.TypeKinds.{by_kind}
 use Rattle.dbpl_codec.proofs.ValueLaws.{fitting, value_fits-out}
-use Rattle.dbpl_codec.specs.KeySpelling.{component_bytes, component_level}
+use Rattle.dbpl_codec.specs.KeySpelling.{component_bytes, key_bytes_level}
 use Rattle.dbpl_codec.specs.Numbers.{byte_of, word_of}
 use Rattle.dbpl_codec.specs.ValueSpelling.{fits_level, value_fits}
 
@@ -35,10 +35,10 @@ component_spellings level =
 
 pub component_bytes-is :
     (t : DbType) (level : DbType-F DbType Field) → out-DbType t ≡ level → (v : Value) →
-    component_bytes t v ≡ component_level (component_spellings level) v
+    component_bytes t v ≡ key_bytes_level (component_spellings level) v
 component_bytes-is t level e v =
-    ap (λ (f : Value → List ℕ). f v) (by_answers-out (Value → List ℕ) component_level t)
-    ∙ ap (λ (l : DbType-F DbType Field). component_level (component_spellings l) v) e
+    ap (λ (f : Value → List ℕ). f v) (by_answers-out (Value → List ℕ) key_bytes_level t)
+    ∙ ap (λ (l : DbType-F DbType Field). key_bytes_level (component_spellings l) v) e
 
 pub is_of-is :
     (t : DbType) (level : DbType-F DbType Field) → out-DbType t ≡ level → (v : Value) →
@@ -141,7 +141,7 @@ spelled_alike t z y bs cs ez ey alike =
 byte_law :
     (t : DbType) (level : DbType-F DbType Field) (limit : ℕ) → out-DbType t ≡ level → limit < 256 →
     ((o : Value-F Value) → is_of_level (tested level) o ≡ is_number (Some (record { least = pos 0; greatest = pos limit })) o) →
-    ((v : Value) → component_level (component_spellings level) v ≡ byte_of (number_of v) ∷ []) → Law t
+    ((v : Value) → key_bytes_level (component_spellings level) v ≡ byte_of (number_of v) ∷ []) → Law t
 byte_law t level limit e small typed spelling =
     number_law t level (record { least = pos 0; greatest = pos limit }) e typed (λ z y hz fz hy fy.
     spelled_alike t z y (byte_of z ∷ []) (byte_of y ∷ [])
@@ -162,7 +162,7 @@ int_law =
 word_law :
     (t : DbType) (level : DbType-F DbType Field) (range : Range) → out-DbType t ≡ level →
     ((o : Value-F Value) → is_of_level (tested level) o ≡ is_number (Some range) o) →
-    ((v : Value) → component_level (component_spellings level) v ≡ big_bytes 4 (word_of (number_of v))) →
+    ((v : Value) → key_bytes_level (component_spellings level) v ≡ big_bytes 4 (word_of (number_of v))) →
     ((z : ℤ) → is_in range z ≡ true → value_fits t (value.Num z) ≡ true → pos (word_of z) ≡ z) → Law t
 word_law t level range e typed spelling back =
     number_law t level range e typed (λ z y hz fz hy fy.

@@ -13,7 +13,7 @@ use Rattle.std.specs.Prelude.{◌-ℤ◌, int_le, is_some, nat_eq, nat_le, negsu
 use Rattle.std.specs.declared.cmp.Ordering.{Ordering}
 use Rattle.std.specs.declared.cmp.Ordering.TheVariants.{Equal, Greater, Less}
 use Rattle.dbpl_value.specs.Keys.{component_of, key_cmp, key_from, number_of, parts_level, parts_of}
-use Rattle.dbpl_value.specs.Types.{are_different, are_names, count_of, element_level, element_of, fields_level, fields_of, is_char, is_char_array, is_char_array_level, is_char_level, is_host, is_host_level, is_identifier, is_in, is_key_field, is_none_left, is_ordinal, is_record, is_same_name, is_sound, is_sound_level, keeps_rules, keys_level, keys_of, range_count, range_level, range_of}
+use Rattle.dbpl_value.specs.Types.{are_different, are_names, count_of, element_level, element_of, fields_level, fields_of, is_char, is_char_array, is_char_array_level, is_char_level, is_host, is_host_level, is_identifier, is_in, is_key_field, is_none_left, is_ordinal, is_record, is_same_name, is_sound, is_sound_level, keeps_rules, key_type, keys_level, keys_of, range_count, range_level, range_of, type_named}
 use Rattle.dbpl_value.specs.Values.{is_of}
 use Rattle.dbpl_value.specs.declared.db_type.DbType.{DbType, DbType-F, out-DbType}
 use Rattle.dbpl_value.specs.declared.db_type.DbType.TheOpen as kinds
@@ -25,9 +25,9 @@ use Rattle.dbpl_value.specs.declared.value.Value.TheVariants as value
 use Rattle.dbpl_codec.proofs.ByteOrder.{fronts-same, joined, same_bytes, then-Equal}
 use Rattle.dbpl_codec.proofs.CompleteLaws.{array_is, host_value, number_is, number_of-Num}
 use Rattle.dbpl_codec.proofs.ComponentOrder.{Alike, Law, char_law, component_bytes-is, component_of-Arr, component_of-Num, host_law, is_of-is, number_law, spelled_alike, value_fits-is}
-use Rattle.dbpl_codec.proofs.FieldNames.{name_of}
-use Rattle.dbpl_codec.proofs.TypeKinds.{by_kind, is_sound-Arr, is_sound-Rec, is_sound-Rel}
-use Rattle.dbpl_codec.specs.KeySpelling.{component_bytes, is_component, is_key, key_bytes_of, key_type, type_named}
+use Rattle.dbpl_value.proofs.FieldNames.{name_of}
+use Rattle.dbpl_value.proofs.TypeKinds.{by_kind, is_sound-Arr, is_sound-Rec, is_sound-Rel}
+use Rattle.dbpl_codec.specs.KeySpelling.{component_bytes, is_component, is_key, key_bytes_of}
 use Rattle.dbpl_codec.specs.Numbers.{byte_of}
 use Rattle.dbpl_codec.specs.ValueSpelling.{value_fits}
 

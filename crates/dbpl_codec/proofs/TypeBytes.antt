@@ -9,7 +9,7 @@ use Rattle.dbpl_value.specs.declared.db_type.DbType.{DbType, DbType-F, map-DbTyp
 use Rattle.dbpl_value.specs.declared.db_type.DbType.TheVariants as types
 use Rattle.dbpl_value.specs.declared.field.Field.{Field}
 use Rattle.dbpl_codec.specs.Numbers.{count_bytes, long_bytes, name_bytes, names_bytes}
-use Rattle.dbpl_codec.specs.TypeSpelling.{type_bytes, type_level}
+use Rattle.dbpl_codec.specs.TypeSpelling.{type_bytes, descriptor_level}
 
 -- the spellings of the types in one level of a type
 abbrev pub spelled : DbType-F DbType Field → DbType-F (DbType × List ℕ) (Field × List ℕ)
@@ -17,8 +17,8 @@ spelled level =
     map-DbType DbType Field (DbType × List ℕ) (Field × List ℕ) (λ part. (part, type_bytes part))
     (λ field. (field, type_bytes field.kind)) level
 
-pub type_bytes-out : (t : DbType) → type_bytes t ≡ type_level (spelled (out-DbType t))
-type_bytes-out t = by_parts-out (List ℕ) type_level t
+pub type_bytes-out : (t : DbType) → type_bytes t ≡ descriptor_level (spelled (out-DbType t))
+type_bytes-out t = by_parts-out (List ℕ) descriptor_level t
 
 -- the spelling of a field
 abbrev pub field_bytes : Field → List ℕ
@@ -54,7 +54,7 @@ pub type_bytes-Rec :
 type_bytes-Rec fields =
     let paired : Field → Field × List ℕ = λ field. (field, type_bytes field.kind) in
     type_bytes-out (types.Rec fields)
-    ∙ ap (λ (level : DbType-F DbType Field). type_level (spelled level)) (types.outs-Rec fields)
+    ∙ ap (λ (level : DbType-F DbType Field). descriptor_level (spelled level)) (types.outs-Rec fields)
     ∙ ap (λ (count : ℕ). 8 ∷ (little_bytes 4 count ++ flat_map (λ (field : Field × List ℕ). name_bytes field.0.name ++ field.1)
     (map paired fields))) (length-map fields paired)
     ∙ ap (λ (bytes : List ℕ). 8 ∷ (count_bytes fields ++ bytes))

@@ -20,7 +20,8 @@ use Rattle.dbpl_value.specs.declared.field.Field.{Field}
 use Rattle.dbpl_codec.proofs.ByteLaws.{IsBytes, at_least, at_most, some_is, word_at-again, word_at-takes}
 use Rattle.dbpl_codec.proofs.ListLaws.{Completes, Sound, Spelled, bind_some, repeat-completes, repeat-sound}
 use Rattle.dbpl_codec.proofs.TypeBytes.{field_bytes, type_bytes-Arr, type_bytes-Bool, type_bytes-Card, type_bytes-Char, type_bytes-Enum, type_bytes-Int, type_bytes-Rec, type_bytes-Rel, type_bytes-Sub}
-use Rattle.dbpl_codec.proofs.TypeKinds.{by_kind, field_fits, is_within, type_fits-Arr, type_fits-Enum, type_fits-Rec, type_fits-Rel, type_fits-Sub, within-Arr, within-Rec, within-Rel, within-Sub, within-none}
+use Rattle.dbpl_value.proofs.TypeKinds.{by_kind, is_within, within-Arr, within-Rec, within-Rel, within-Sub, within-none}
+use Rattle.dbpl_codec.proofs.TypeFits.{field_fits, type_fits-Arr, type_fits-Enum, type_fits-Rec, type_fits-Rel, type_fits-Sub}
 use Rattle.dbpl_codec.specs.Numbers.{count_bytes, count_fits, long_bytes, name_bytes, names_bytes, names_fit}
 use Rattle.dbpl_codec.specs.Reading.{Reader, ◌>>=◌, byte_at, repeat, word_at}
 use Rattle.dbpl_codec.specs.TypeReading.{array_at, bytes_at, enumeration_at, field_at, kind_at, long_at, name_at, names_at, record_at, relation_at, subrange_at, type_at}

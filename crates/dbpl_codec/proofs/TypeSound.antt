@@ -12,7 +12,8 @@ use Rattle.dbpl_value.specs.declared.field.Field.{Field}
 use Rattle.dbpl_codec.proofs.ByteLaws.{IsBytes, IsBytes-rest, some_is, word_at-takes}
 use Rattle.dbpl_codec.proofs.ListLaws.{Sound, Spelled, bind_some, repeat-sound}
 use Rattle.dbpl_codec.proofs.TypeBytes.{field_bytes, type_bytes-Arr, type_bytes-Bool, type_bytes-Card, type_bytes-Char, type_bytes-Enum, type_bytes-Int, type_bytes-Rec, type_bytes-Rel, type_bytes-Sub}
-use Rattle.dbpl_codec.proofs.TypeKinds.{field_fits, is_within, type_fits-Arr, type_fits-Bool, type_fits-Card, type_fits-Char, type_fits-Enum, type_fits-Int, type_fits-Rec, type_fits-Rel, type_fits-Sub, within-Arr, within-Bool, within-Card, within-Char, within-Enum, within-Int, within-Rec, within-Rel, within-Sub}
+use Rattle.dbpl_value.proofs.TypeKinds.{is_within, within-Arr, within-Bool, within-Card, within-Char, within-Enum, within-Int, within-Rec, within-Rel, within-Sub}
+use Rattle.dbpl_codec.proofs.TypeFits.{field_fits, type_fits-Arr, type_fits-Bool, type_fits-Card, type_fits-Char, type_fits-Enum, type_fits-Int, type_fits-Rec, type_fits-Rel, type_fits-Sub}
 use Rattle.dbpl_codec.proofs.TypeReadLaws.{Spells, field_pair, long-sound, name-sound, names-sound, one}
 use Rattle.dbpl_codec.specs.Numbers.{count_bytes, long_bytes, name_bytes, names_bytes}
 use Rattle.dbpl_codec.specs.Reading.{Reader, ◌>>=◌, repeat, word_at}

@@ -1,41 +1,31 @@
 -- The bytes by which keys are ordered.
-use Rattle.std.specs.Prelude.{ℕ, ◌+◌, ◌%◌, ◌^◌, Bool, ◌&&◌, nat_le, if◌then◌else◌, List, [], ◌∷◌, length}
+use Rattle.std.specs.Prelude.{ℕ, ◌+◌, ◌%◌, ◌^◌, Bool, ◌&&◌, nat_le, List, [], ◌∷◌, length}
 use Rattle.std.specs.List.{flat_map, list_all, zip}
 use Rattle.byteorder.specs.Endian.{big_bytes}
 use Rattle.dbpl_value.specs.Keys.{number_of, parts_of}
-use Rattle.dbpl_value.specs.Types.{by_answers, element_of, fields_of, is_same_name, keys_of}
+use Rattle.dbpl_value.specs.Types.{by_answers, key_type, keys_of}
 use Rattle.dbpl_value.specs.Values.{is_of}
 use Rattle.dbpl_value.specs.declared.db_type.DbType.{DbType, DbType-F}
 use Rattle.dbpl_value.specs.declared.db_type.DbType.TheOpen as kinds
-use Rattle.dbpl_value.specs.declared.field.Field.{Field}
 use Rattle.dbpl_value.specs.declared.value.Value.{Value}
 use Rattle.dbpl_codec.specs.Numbers.{byte_of, word_of}
 use Rattle.dbpl_codec.specs.ValueSpelling.{value_fits}
 
 -- Key bytes are big endian, so that they compare as the numbers do, and an INTEGER is raised by 2^31, so that the least
 -- has the least bytes. An array is the bytes of its characters.
-abbrev pub component_level : DbType-F (Value → List ℕ) (Value → List ℕ) → Value → List ℕ
-component_level kinds.Int v = big_bytes 4 ((word_of (number_of v) + 2147483648) % 2 ^ 32)
-component_level kinds.Card v = big_bytes 4 (word_of (number_of v))
-component_level kinds.Bool v = byte_of (number_of v) ∷ []
-component_level kinds.Char v = byte_of (number_of v) ∷ []
-component_level (kinds.Enum names) v = big_bytes 4 (word_of (number_of v))
-component_level (kinds.Sub host least greatest) v = host v
-component_level (kinds.Arr index element) v = flat_map element (parts_of v)
-component_level _ v = []
+abbrev pub key_bytes_level : DbType-F (Value → List ℕ) (Value → List ℕ) → Value → List ℕ
+key_bytes_level kinds.Int v = big_bytes 4 ((word_of (number_of v) + 2147483648) % 2 ^ 32)
+key_bytes_level kinds.Card v = big_bytes 4 (word_of (number_of v))
+key_bytes_level kinds.Bool v = byte_of (number_of v) ∷ []
+key_bytes_level kinds.Char v = byte_of (number_of v) ∷ []
+key_bytes_level (kinds.Enum names) v = big_bytes 4 (word_of (number_of v))
+key_bytes_level (kinds.Sub host least greatest) v = host v
+key_bytes_level (kinds.Arr index element) v = flat_map element (parts_of v)
+key_bytes_level _ v = []
 
 -- the key bytes of one component of this type
 abbrev pub component_bytes : DbType → Value → List ℕ
-component_bytes t = by_answers (Value → List ℕ) component_level t
-
--- the type of the field of this name, and `t` where there is none
-abbrev pub type_named : DbType → List Field → List ℕ → DbType
-type_named t [] name = t
-type_named t (field ∷ fields) name = if is_same_name field.name name then field.kind else type_named t fields name
-
--- the type of the key field of this name in a relation of type `t`
-abbrev pub key_type : DbType → List ℕ → DbType
-key_type t name = type_named t (fields_of (element_of t)) name
+component_bytes t = by_answers (Value → List ℕ) key_bytes_level t
 
 -- THE key bytes of a key in a relation of this type, or of its first components
 abbrev pub key_bytes_of : DbType → List Value → List ℕ

@@ -59,16 +59,16 @@ abbrev pub risen : DbType → List Value × List ℕ → Option (Value × List �
 risen t x = if keys_rise t x.0 then Some (value.Rel x.0, x.1) else None
 
 -- the number of an ordinal type that is no subrange, before its range is looked at
-abbrev pub plain_level : {X Y : Type 0} → DbType-F X Y → Reader Value
-plain_level kinds.Int bytes = signed_at bytes
-plain_level kinds.Card bytes = unsigned_at bytes
-plain_level kinds.Bool bytes = small_at bytes
-plain_level kinds.Char bytes = small_at bytes
-plain_level (kinds.Enum names) bytes = unsigned_at bytes
-plain_level _ bytes = None
+abbrev pub unchecked_level : {X Y : Type 0} → DbType-F X Y → Reader Value
+unchecked_level kinds.Int bytes = signed_at bytes
+unchecked_level kinds.Card bytes = unsigned_at bytes
+unchecked_level kinds.Bool bytes = small_at bytes
+unchecked_level kinds.Char bytes = small_at bytes
+unchecked_level (kinds.Enum names) bytes = unsigned_at bytes
+unchecked_level _ bytes = None
 
 abbrev pub number_at : DbType → Reader Value
-number_at t bytes = plain_level (out-DbType t) bytes >>= checked (range_of t)
+number_at t bytes = unchecked_level (out-DbType t) bytes >>= checked (range_of t)
 
 abbrev pub read_level : DbType-F (DbType × Reader Value) (Field × Reader Value) → Reader Value
 read_level (kinds.Sub host least greatest) bytes =
@@ -79,7 +79,7 @@ read_level (kinds.Rec fields) bytes =
     in_turn (map (λ field. field.1) fields) [] bytes >>= λ x. Some (value.Rec x.0, x.1)
 read_level (kinds.Rel keys record_type) bytes =
     word_at bytes >>= λ n. repeat record_type.1 n.0 [] n.1 >>= risen (types.Rel keys record_type.0)
-read_level ordinal bytes = plain_level ordinal bytes >>= checked (range_level ordinal)
+read_level ordinal bytes = unchecked_level ordinal bytes >>= checked (range_level ordinal)
 
 -- the value of this type that stands before the other bytes
 abbrev pub reads : DbType → Reader Value

@@ -10,21 +10,21 @@ use Rattle.dbpl_codec.specs.Numbers.{count_bytes, count_fits, long_bytes, name_b
 -- One byte says which kind of type it is. An enumeration has its names behind it, a subrange its host and its bounds, an
 -- array its index type and its element type, a record its fields with their names, and a relation the names of its keys
 -- and its record type.
-abbrev pub type_level : DbType-F (DbType × List ℕ) (Field × List ℕ) → List ℕ
-type_level kinds.Int = 1 ∷ []
-type_level kinds.Card = 2 ∷ []
-type_level kinds.Bool = 3 ∷ []
-type_level kinds.Char = 4 ∷ []
-type_level (kinds.Enum names) = 5 ∷ names_bytes names
-type_level (kinds.Sub host least greatest) = 6 ∷ (host.1 ++ (long_bytes least ++ long_bytes greatest))
-type_level (kinds.Arr index element) = 7 ∷ (index.1 ++ element.1)
-type_level (kinds.Rec fields) =
+abbrev pub descriptor_level : DbType-F (DbType × List ℕ) (Field × List ℕ) → List ℕ
+descriptor_level kinds.Int = 1 ∷ []
+descriptor_level kinds.Card = 2 ∷ []
+descriptor_level kinds.Bool = 3 ∷ []
+descriptor_level kinds.Char = 4 ∷ []
+descriptor_level (kinds.Enum names) = 5 ∷ names_bytes names
+descriptor_level (kinds.Sub host least greatest) = 6 ∷ (host.1 ++ (long_bytes least ++ long_bytes greatest))
+descriptor_level (kinds.Arr index element) = 7 ∷ (index.1 ++ element.1)
+descriptor_level (kinds.Rec fields) =
     8 ∷ (count_bytes fields ++ flat_map (λ field. name_bytes field.0.name ++ field.1) fields)
-type_level (kinds.Rel keys record_type) = 9 ∷ (names_bytes keys ++ record_type.1)
+descriptor_level (kinds.Rel keys record_type) = 9 ∷ (names_bytes keys ++ record_type.1)
 
 -- THE spelling of a descriptor
 abbrev pub type_bytes : DbType → List ℕ
-type_bytes t = by_parts (List ℕ) type_level t
+type_bytes t = by_parts (List ℕ) descriptor_level t
 
 -- a number that eight bytes can hold
 abbrev pub is_long : ℤ → Bool

@@ -2,11 +2,11 @@
 ghost use Rattle.std.specs.Prelude.{◌≡◌, ◌++◌, OnErr, OnOk};
 ghost use Rattle.std.specs.List.{flat_map};
 ghost use Rattle.dbpl_codec.specs.Growth.{Begins};
-ghost use Rattle.dbpl_codec.specs.KeySpelling.{component_bytes, key_bytes_of, type_named as type_of_name};
+ghost use Rattle.dbpl_codec.specs.KeySpelling.{component_bytes, key_bytes_of};
 
 use crate::numbers::{append_byte, append_key_word, low_word};
-use dbpl_base::{Memory, Name};
-use dbpl_value::{DbType, Field, Value, element_of, fields_of, keys_of, number_of, parts_of};
+use dbpl_base::Memory;
+use dbpl_value::{DbType, Value, key_type, keys_of, number_of, parts_of};
 
 /// Appends the key bytes of a key in a relation of type `t`, or of its first components.
 #[tactic(auto, using(crate::proofs::Growing::grows))]
@@ -29,23 +29,10 @@ fn append_key(t: &DbType, key: &[Value], out: &mut Vec<u8>) -> Result<(), Memory
     ensures begins { Begins out.new.items out.old.items }
 {
     let keys = keys_of(t);
-    let fields = fields_of(element_of(t));
     for i in 0..keys.len().min(key.len()) {
-        component(type_named(t, fields, &keys[i]), &key[i], out)?;
+        component(key_type(t, &keys[i]), &key[i], out)?;
     }
     Ok(())
-}
-
-/// The type of the field of this name, and `t` where there is none.
-fn type_named<'a>(t: &'a DbType, fields: &'a [Field], name: &Name) -> &'a DbType
-    ensures { result.now ≡ type_of_name t.now fields.now name.now }
-{
-    for field in fields {
-        if field.name == *name {
-            return &field.kind;
-        }
-    }
-    t
 }
 
 #[cycle(components)]

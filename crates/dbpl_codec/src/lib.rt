@@ -2,16 +2,12 @@
 #![tactic(auto)]
 
 mod descriptors;
-mod different;
 mod fronts;
-mod key_fields;
 mod keys;
 mod laws;
-mod names;
 mod numbers;
 mod read_err;
 mod reads;
-mod rules;
 #[cfg(test)]
 mod tests;
 mod type_reads;

@@ -3,7 +3,7 @@ ghost use Rattle.std.specs.Prelude.{◌≡◌, [], IfOk, IsTrue, Some, map};
 ghost use Rattle.dbpl_value.specs.Keys.{keys_rise};
 ghost use Rattle.dbpl_value.specs.Types.{is_type, range_of as range_of_type};
 ghost use Rattle.dbpl_value.specs.Values.{is_number as is_number_value, is_of};
-ghost use Rattle.dbpl_codec.specs.Reading.{Gives, checked, in_turn, number_at, plain_level, reads as reads_of, repeat, risen, whole};
+ghost use Rattle.dbpl_codec.specs.Reading.{Gives, checked, in_turn, number_at, unchecked_level, reads as reads_of, repeat, risen, whole};
 ghost use Rattle.dbpl_codec.specs.ValueSpelling.{bytes_of, value_fits};
 ghost use Rattle.dbpl_value.specs.declared.db_type.DbType.{out-DbType};
 ghost use Rattle.dbpl_value.specs.declared.value.Value.{Value, out-Value};
@@ -113,7 +113,7 @@ fn number<'a>(t: &DbType, bytes: &'a [u8]) -> Result<(Value, &'a [u8]), ReadErr>
 }
 
 fn plain_number<'a>(t: &DbType, bytes: &'a [u8]) -> Result<(Value, &'a [u8]), ReadErr>
-    ensures { Gives (λ x. (x.0, x.1.now)) result (plain_level (out-DbType t.now) bytes.now) }
+    ensures { Gives (λ x. (x.0, x.1.now)) result (unchecked_level (out-DbType t.now) bytes.now) }
 {
     match t {
         DbType::Int => {

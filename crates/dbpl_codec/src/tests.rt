@@ -1,58 +1,26 @@
-//! Worked spellings, and bytes that are the spelling of nothing. Types and values are given by their bytes, read and
-//! written again.
-mod descriptors;
-mod keys;
-mod random;
-mod values;
-
-use crate::{ReadErr, read_type, read_value, write_type, write_value};
-use dbpl_base::Memory;
-use dbpl_value::DbType;
-use std::alloc::Global;
+//! With ample memory each call that takes memory has its answer. Many more rows stand in the input of `dbpl_rows`.
+use crate::{ReadErr, key_bytes, read_type, read_value, write_type, write_value};
+use dbpl_value::Value;
 
 /// RELATION pos OF RECORD pos, qty: CARDINAL END
 const SUBS: &[u8] = b"\x09\x01\0\0\0\x03\0\0\0pos\x08\x02\0\0\0\x03\0\0\0pos\x02\x03\0\0\0qty\x02";
 
-/// The type whose descriptor is read. What is none is taken for want of memory, so that a test ends.
-fn type_of(alloc: Global, descriptor: &[u8]) -> Result<DbType, Memory> {
-    match read_type(alloc, descriptor) {
-        Ok(t) => Ok(t),
-        Err(_) => Err(Memory),
-    }
-}
+/// The record (1, 5) alone
+const ONE_FIVE: &[u8] = b"\x01\0\0\0\x01\0\0\0\x05\0\0\0";
 
-/// The bytes are a descriptor, which is written as it was read.
-fn is_descriptor(alloc: Global, bytes: &[u8]) -> Result<bool, Memory> {
-    match read_type(alloc, bytes) {
-        Ok(t) => {
-            let mut out = Vec::new(alloc);
-            write_type(&t, &mut out)?;
-            Ok(out.as_slice() == bytes)
-        }
-        Err(ReadErr::Malformed) => Ok(false),
-        Err(ReadErr::Memory) => Err(Memory),
-    }
-}
-
-/// The bytes are a value of this type, which is written as it was read.
-fn is_value(alloc: Global, t: &DbType, bytes: &[u8]) -> Result<bool, Memory> {
-    match read_value(alloc, t, bytes) {
-        Ok(v) => {
-            let mut out = Vec::new(alloc);
-            write_value(t, &v, &mut out)?;
-            Ok(out.as_slice() == bytes)
-        }
-        Err(ReadErr::Malformed) => Ok(false),
-        Err(ReadErr::Memory) => Err(Memory),
-    }
-}
-
-/// So many times the same bytes, and then others.
-fn repeated(alloc: Global, bytes: &[u8], count: u32, last: &[u8]) -> Result<Vec<u8>, Memory> {
-    let mut out = Vec::new(alloc);
-    for _at in 0..count {
-        out.extend_from_slice(bytes)?;
-    }
-    out.extend_from_slice(last)?;
-    Ok(out)
+#[test]
+fn memory_is_taken(rt: HostRuntime) -> Result<(), ReadErr> {
+    let alloc = rt.alloc();
+    let t = read_type(alloc, SUBS)?;
+    let mut descriptor = Vec::new(alloc);
+    write_type(&t, &mut descriptor)?;
+    assert!(rt; descriptor.as_slice() == SUBS);
+    let v = read_value(alloc, &t, ONE_FIVE)?;
+    let mut bytes = Vec::new(alloc);
+    write_value(&t, &v, &mut bytes)?;
+    assert!(rt; bytes.as_slice() == ONE_FIVE);
+    let mut key = Vec::new(alloc);
+    key_bytes(&t, &[Value::Num(258)], &mut key)?;
+    assert!(rt; key.as_slice() == b"\0\0\x01\x02".as_slice());
+    Ok(())
 }

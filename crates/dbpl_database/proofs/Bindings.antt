@@ -1,5 +1,5 @@
 -- A relation variable put in its place.
-use Rattle.std.proofs.Common.{◌≡◌, ◌≤◌, ◌+◌, ◌<◌, ℕ, suc, Bool, true, false, not, cond, ltb, List, [], ◌∷◌, length, Some, None, Option, slice_get, refl, ap, sym, ◌∙◌, arith, insert}
+use Rattle.std.proofs.Common.{◌≡◌, ◌≤◌, ◌+◌, ◌<◌, ℕ, suc, Bool, true, false, not, cond, ltb, List, [], ◌∷◌, length, Some, None, slice_get, refl, ap, sym, ◌∙◌, arith, insert}
 use Rattle.std.proofs.lemmas.Bool.{ltb-false, ltb-true}
 use Rattle.std.proofs.lemmas.Iterator.Adapters.{position_from-zero}
 use Rattle.std.proofs.lemmas.List.Sums.{prefix_len-le-length}
@@ -9,8 +9,8 @@ use Rattle.std.specs.List.{find, position_from, position_or_len}
 use Rattle.std.specs.Option.{option_and_then, unwrap_or}
 use Rattle.std.specs.Ordering.{is_lt}
 use Rattle.std.specs.Prelude.{IfSome}
-use Rattle.dbpl_database.specs.Binding.{empty_bound, with_bound}
-use Rattle.dbpl_database.specs.Databases.{name_cmp}
+use Rattle.dbpl_value.specs.Binding.{empty_bound, with_bound}
+use Rattle.dbpl_value.specs.Databases.{name_cmp}
 use Rattle.dbpl_value.specs.declared.bound.Bound.{Bound}
 use Rattle.dbpl_value.specs.declared.field.Field.{Field}
 

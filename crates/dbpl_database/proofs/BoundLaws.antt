@@ -4,11 +4,12 @@ use Rattle.std.proofs.lemmas.Bool.{cases_lt, ltb-true}
 use Rattle.std.proofs.lemmas.List.{append-nil, get_or-append-add, get_or_append_left, get_or_past, length-append}
 use Rattle.std.specs.Cmp.{first_so, second_so}
 use Rattle.std.specs.Cmp.Derive.{both_true}
+use Rattle.dbpl_base.specs.declared.limits.TheConstants.{TYPE_DEPTH}
 use Rattle.dbpl_codec.proofs.ByteLaws.{IsBytes, some_is, word_at-again}
 use Rattle.dbpl_codec.proofs.CompleteLaws.{reads-complete}
 use Rattle.dbpl_codec.proofs.ListLaws.{Completes, Sound, Spelled, bind_some}
 use Rattle.dbpl_codec.proofs.TypeReadLaws.{name-sound}
-use Rattle.dbpl_codec.proofs.TypeWhole.{keeps, type_found, type_keeps, type_read}
+use Rattle.dbpl_codec.proofs.TypeWhole.{type_found, type_read}
 use Rattle.dbpl_codec.proofs.ValueLaws.{reads-sound}
 use Rattle.dbpl_codec.proofs.WholeLaws.{whole_some}
 use Rattle.dbpl_codec.specs.Numbers.{count_bytes, count_fits, name_bytes}
@@ -17,7 +18,7 @@ use Rattle.dbpl_codec.specs.TypeReading.{bytes_at, name_at, type_at}
 use Rattle.dbpl_codec.specs.TypeSpelling.{type_bytes, type_fits}
 use Rattle.dbpl_codec.specs.ValueSpelling.{bytes_of, value_fits}
 use Rattle.dbpl_database.proofs.StringSteps.{bytes_long, name_steps}
-use Rattle.dbpl_database.specs.Databases.{are_small, is_bound, is_kept, is_kept_name, is_kept_type}
+use Rattle.dbpl_value.specs.Databases.{are_small, is_bound, is_kept, is_kept_name, is_kept_type}
 use Rattle.dbpl_database.specs.Reading.{bound_at, bound_from, type_in, value_in}
 use Rattle.dbpl_database.specs.Spelling.{bound_bytes, bound_fits}
 use Rattle.dbpl_value.specs.Types.{is_sound, is_type}
@@ -44,10 +45,10 @@ pub type_in-sound :
     (is_type t ≡ true) × (type_fits t ≡ true) × (bytes ≡ type_bytes t)
 unfolding type_in
 type_in-sound bytes t h e =
-    let step = bind_some (whole (type_at 64 bytes)) (λ u. if is_type u then Some u else None) t e in
+    let step = bind_some (whole (type_at TYPE_DEPTH bytes)) (λ u. if is_type u then Some u else None) t e in
     let both = passed step.0 t (is_type step.0) step.2 in
     let typed : is_type t ≡ true = ap is_type (sym both.1) ∙ both.0 in
-    type_found t bytes h (step.1 ∙ ap (λ (u : DbType). Some u) both.1) (type_keeps t typed)
+    type_found t bytes h (step.1 ∙ ap (λ (u : DbType). Some u) both.1) typed
 
 pub value_in-completes :
     (t : DbType) (v : Value) → is_type t ≡ true → is_of t v ≡ true → value_fits t v ≡ true →

@@ -1,12 +1,12 @@
 -- A database that is spelled is read, and what is read was spelled so.
-use Rattle.std.proofs.Common.{◌≡◌, ◌&&◌, ◌<◌, ◌^◌, ℕ, Bool, true, false, if◌then◌else◌, List, [], ◌++◌, length, Option, Some, None, Result, Ok, Err, refl, sym, ap, subst, ◌∙◌, append_assoc}
+use Rattle.std.proofs.Common.{◌≡◌, ◌<◌, ◌^◌, ℕ, true, if◌then◌else◌, List, [], ◌++◌, length, Option, Some, None, Result, Ok, Err, refl, sym, ap, subst, ◌∙◌, append_assoc}
 use Rattle.std.proofs.lemmas.Bool.{lt-ltb, ltb-true}
 use Rattle.std.proofs.lemmas.List.{append-nil}
 use Rattle.std.specs.Cmp.{first_so, second_so}
 use Rattle.std.specs.Cmp.Derive.{both_true}
 use Rattle.std.specs.List.{flat_map, list_all}
 use Rattle.byteorder.specs.Endian.{little_bytes}
-use Rattle.dbpl_codec.proofs.ByteLaws.{IsBytes, some_is, word_at-again, word_at-takes}
+use Rattle.dbpl_codec.proofs.ByteLaws.{IsBytes, word_at-again, word_at-takes}
 use Rattle.dbpl_codec.proofs.ListLaws.{Completes, Sound, Spelled, bind_some, repeat-completes, repeat-sound}
 use Rattle.dbpl_codec.proofs.WholeLaws.{whole_some}
 use Rattle.dbpl_codec.specs.Numbers.{count_bytes, count_fits}
@@ -14,7 +14,7 @@ use Rattle.std.specs.Prelude.{IfOk}
 use Rattle.dbpl_codec.specs.Reading.{Gives, ◌>>=◌, repeat, whole, word_at}
 use Rattle.dbpl_codec.specs.declared.read_err.ReadErr.{ReadErr}
 use Rattle.dbpl_database.proofs.BoundLaws.{bound-completes, bound-sound, passed}
-use Rattle.dbpl_database.specs.Databases.{is_bound, is_database, names_rise}
+use Rattle.dbpl_value.specs.Databases.{is_bound, is_database, names_rise}
 use Rattle.dbpl_database.specs.Reading.{bound_at, bounds_at, database_of}
 use Rattle.dbpl_database.specs.Spelling.{bound_bytes, bound_fits, database_bytes, database_fits}
 use Rattle.dbpl_value.specs.declared.bound.Bound.{Bound}

@@ -9,7 +9,7 @@ use Rattle.dbpl_codec.specs.ValueSpelling.{bytes_of, value_fits}
 use Rattle.dbpl_codec.specs.declared.read_err.ReadErr.{ReadErr}
 use Rattle.dbpl_codec.specs.declared.read_err.ReadErr.TheVariants as errors
 use Rattle.dbpl_database.proofs.BoundLaws.{type_in-completes, type_in-sound, value_in-completes, value_in-sound}
-use Rattle.dbpl_database.specs.Databases.{are_small, is_bound, is_kept_name, is_kept_type}
+use Rattle.dbpl_value.specs.Databases.{are_small, is_bound, is_kept_name, is_kept_type}
 use Rattle.dbpl_database.specs.Reading.{type_in, value_in}
 use Rattle.dbpl_value.specs.Types.{is_type}
 use Rattle.dbpl_value.specs.Values.{is_of}

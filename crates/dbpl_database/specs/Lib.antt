@@ -1,4 +1,2 @@
-pub mod Binding
-pub mod Databases
 pub mod Reading
 pub mod Spelling

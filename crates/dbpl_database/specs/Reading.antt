@@ -1,8 +1,9 @@
 -- The database that bytes spell, read from left to right.
 use Rattle.std.specs.Prelude.{ℕ, if◌then◌else◌, List, [], Option, Some, None}
+use Rattle.dbpl_base.specs.declared.limits.TheConstants.{TYPE_DEPTH}
 use Rattle.dbpl_codec.specs.Reading.{Reader, ◌>>=◌, reads, repeat, whole, word_at}
 use Rattle.dbpl_codec.specs.TypeReading.{name_at, type_at}
-use Rattle.dbpl_database.specs.Databases.{is_bound, names_rise}
+use Rattle.dbpl_value.specs.Databases.{is_bound, names_rise}
 use Rattle.dbpl_value.specs.Types.{is_type}
 use Rattle.dbpl_value.specs.declared.bound.Bound.{Bound}
 use Rattle.dbpl_value.specs.declared.db_type.DbType.{DbType}
@@ -10,7 +11,7 @@ use Rattle.dbpl_value.specs.declared.value.Value.{Value}
 
 -- the type whose descriptor these bytes are
 unfoldable pub type_in : List ℕ → Option DbType
-type_in bytes = whole (type_at 64 bytes) >>= λ t. if is_type t then Some t else None
+type_in bytes = whole (type_at TYPE_DEPTH bytes) >>= λ t. if is_type t then Some t else None
 
 -- the value of this type that these bytes are
 unfoldable pub value_in : DbType → List ℕ → Option Value

@@ -3,8 +3,8 @@ ghost use Rattle.std.specs.Prelude.{◌≡◌, ◌≤◌, ◌<◌, IfOk, IfSome,
 ghost use Rattle.std.specs.List.{position_from, position_or_len};
 ghost use Rattle.std.specs.Option.{option_and_then};
 ghost use Rattle.std.specs.Ordering.{is_lt};
-ghost use Rattle.dbpl_database.specs.Binding.{bound_named, empty_bound as empty_bound_of, with_bound};
-ghost use Rattle.dbpl_database.specs.Databases.{name_cmp};
+ghost use Rattle.dbpl_value.specs.Binding.{bound_named, empty_bound as empty_bound_of, with_bound};
+ghost use Rattle.dbpl_value.specs.Databases.{name_cmp};
 ghost use Rattle.dbpl_value.specs.Types.{is_same_name};
 
 use crate::names::is_less;

@@ -1,4 +1,4 @@
-//! Databases: what they are, how a program's relation variables are bound to one, and their spelling.
+//! Databases: how a program's relation variables are bound to one, and their spelling.
 #![tactic(auto)]
 
 mod binding;

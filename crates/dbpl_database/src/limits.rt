@@ -1,18 +1,9 @@
 //! Which relation variables and records can be kept.
 ghost use Rattle.std.specs.Prelude.{◌≡◌, ◌-◌, ◌^◌, ◌≤◌, min, sum_by};
-ghost use Rattle.dbpl_codec.specs.KeySpelling.{key_type as key_type_of, type_named as type_of_name};
-ghost use Rattle.dbpl_database.specs.Databases.{are_small as are_small_records, is_kept_type as is_kept_type_of, key_size as key_size_of, host_width as host_width_of, key_width as key_width_of};
+ghost use Rattle.dbpl_value.specs.Databases.{are_small as are_small_records, is_kept_type as is_kept_type_of, key_size as key_size_of, host_width as host_width_of, key_width as key_width_of};
 
-use dbpl_base::Name;
-use dbpl_value::{
-    DbType, Field, Value, count_of, element_of, fields_of, keys_of, parts_of, size_of,
-};
-
-/// How many bytes a record may take.
-const RECORD_BYTES: u64 = 1_048_576;
-
-/// How many bytes a key may take.
-const KEY_BYTES: u64 = 255;
+use dbpl_base::limits::{KEY_BYTES, RECORD_BYTES};
+use dbpl_value::{DbType, Value, count_of, element_of, key_type, keys_of, parts_of, size_of};
 
 /// A relation type whose keys take so few bytes.
 pub(crate) fn is_kept_type(t: &DbType) -> bool
@@ -30,24 +21,6 @@ fn key_size(t: &DbType) -> u64
         total = total.saturating_add(key_width(key_type(t, name)));
     }
     total
-}
-
-/// The type of a key field.
-fn key_type<'a>(t: &'a DbType, name: &Name) -> &'a DbType
-    ensures { result.now ≡ key_type_of t.now name.now }
-{
-    type_named(t, fields_of(element_of(t)), name)
-}
-
-fn type_named<'a>(t: &'a DbType, fields: &'a [Field], name: &Name) -> &'a DbType
-    ensures { result.now ≡ type_of_name t.now fields.now name.now }
-{
-    for field in fields {
-        if field.name == *name {
-            return &field.kind;
-        }
-    }
-    t
 }
 
 /// How many key bytes a component has, or 2^64 - 1 where that passes it.

@@ -1,19 +1,18 @@
 //! Names of relation variables, and their order.
 ghost use Rattle.std.specs.Prelude.{◌≡◌, length};
-ghost use Rattle.std.specs.List.{list_all, take_while};
+ghost use Rattle.std.specs.List.{take_while};
 ghost use Rattle.std.specs.Ordering.{is_lt};
-ghost use Rattle.dbpl_base.specs.Words.{is_letter as is_letter_byte, is_word_byte};
-ghost use Rattle.dbpl_value.specs.Types.{is_identifier as is_identifier_name};
-ghost use Rattle.dbpl_database.specs.Databases.{is_joined_name as is_joined, is_kept_name as is_kept_name_of, is_no_stop, name_cmp, names_rise};
+ghost use Rattle.dbpl_value.specs.Databases.{is_joined_name as is_joined, is_kept_name as is_kept_name_of, is_no_stop, name_cmp, names_rise};
 
 use dbpl_base::Name;
-use dbpl_value::Bound;
+use dbpl_base::limits::RELATION_NAME_BYTES;
+use dbpl_value::{Bound, is_identifier};
 
-/// A module's name and a variable's, joined by a full stop, of 128 bytes at most.
+/// A module's name and a variable's, joined by a full stop, of no more bytes than they may take.
 pub(crate) fn is_kept_name(name: &[u8]) -> bool
     ensures { result ≡ is_kept_name_of name.now }
 {
-    is_joined_name(name) && name.len() <= 128
+    is_joined_name(name) && name.len() <= RELATION_NAME_BYTES
 }
 
 fn is_joined_name(name: &[u8]) -> bool
@@ -32,27 +31,6 @@ fn before_stop(name: &[u8]) -> usize
     ensures { result ≡ length (take_while is_no_stop name.now) }
 {
     name.iter().take_while(|byte| **byte != b'.').count()
-}
-
-fn is_identifier(name: &[u8]) -> bool
-    ensures { result ≡ is_identifier_name name.now }
-{
-    match name.split_first() {
-        Some((first, others)) => is_letter(*first) && are_word_bytes(others),
-        None => false,
-    }
-}
-
-fn is_letter(byte: u8) -> bool
-    ensures { result ≡ is_letter_byte byte }
-{
-    byte.is_ascii_alphabetic()
-}
-
-fn are_word_bytes(bytes: &[u8]) -> bool
-    ensures { result ≡ list_all is_word_byte bytes.now }
-{
-    bytes.iter().all(|byte| byte.is_ascii_alphanumeric())
 }
 
 /// Whether the first name is less than the second, by their bytes.

@@ -4,7 +4,7 @@ ghost use Rattle.dbpl_codec.specs.Reading.{Gives, repeat, whole, word_at};
 ghost use Rattle.dbpl_codec.specs.TypeReading.{name_at};
 ghost use Rattle.dbpl_value.specs.Types.{is_type};
 ghost use Rattle.dbpl_value.specs.Values.{is_of};
-ghost use Rattle.dbpl_database.specs.Databases.{are_small as are_small_records, is_bound as is_bound_of, is_database, is_kept_name as is_kept_name_of, is_kept_type as is_kept_type_of};
+ghost use Rattle.dbpl_value.specs.Databases.{are_small as are_small_records, is_bound as is_bound_of, is_database, is_kept_name as is_kept_name_of, is_kept_type as is_kept_type_of};
 ghost use Rattle.dbpl_database.specs.Reading.{bound_at as bound_of, bound_from as bound_from_strings, bounds_at, database_of, type_in, value_in};
 ghost use Rattle.dbpl_database.specs.Spelling.{database_bytes, database_fits};
 

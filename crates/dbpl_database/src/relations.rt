@@ -1,6 +1,6 @@
 //! The relation that a variable of a database holds.
 ghost use Rattle.std.specs.Prelude.{◌≡◌, ◌<◌, length};
-ghost use Rattle.dbpl_database.specs.Binding.{with_relation};
+ghost use Rattle.dbpl_value.specs.Binding.{with_relation};
 
 use dbpl_base::{List, Name};
 use dbpl_value::{Bound, DbType, Value};

@@ -8,11 +8,11 @@ use Rattle.std.specs.Prelude.{pos}
 use Rattle.dbpl_value.specs.declared.db_type.DbType.{DbType}
 use Rattle.dbpl_value.specs.declared.value.Value.{Value}
 use Rattle.dbpl_value.specs.declared.value.Value.TheVariants as value
-use Rattle.dbpl_relation.proofs.EqualityLemmas.{is_same-equal}
+use Rattle.dbpl_value.proofs.EqualityLemmas.{is_same-equal}
 use Rattle.dbpl_relation.proofs.FirstAt.{position-none}
 use Rattle.dbpl_relation.proofs.Puts.{both_so}
 use Rattle.dbpl_relation.specs.Changes.{after, changed, changed_inside, clashes, everywhere, removed, unless}
-use Rattle.dbpl_relation.specs.Equality.{is_same}
+use Rattle.dbpl_value.specs.Equality.{is_same}
 use Rattle.dbpl_relation.specs.Relations.{is_among}
 use Rattle.dbpl_relation.specs.declared.change_err.ChangeErr.TheVariants as change_err
 use Rattle.dbpl_relation.specs.declared.op.Op.{Op}

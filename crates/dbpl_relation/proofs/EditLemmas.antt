@@ -11,18 +11,13 @@ use Rattle.dbpl_value.proofs.KeyOrder.{key_cmp_total}
 use Rattle.dbpl_value.specs.Keys.{has_key, key_cmp, key_of, keys_rise}
 use Rattle.dbpl_value.specs.declared.db_type.DbType.{DbType}
 use Rattle.dbpl_value.specs.declared.value.Value.{Value}
-use Rattle.dbpl_relation.proofs.EqualityLemmas.{is_same-equal, is_same-own}
+use Rattle.dbpl_value.proofs.EqualityLemmas.{is_same-equal, is_same-own}
 use Rattle.dbpl_relation.proofs.Lacking.{first_lacks, lacks, rest_lacks}
 use Rattle.dbpl_relation.proofs.Puts.{both_so, list_all-mono, put-found, put-rises}
 use Rattle.dbpl_relation.proofs.Searching.{get_or-same}
 use Rattle.dbpl_relation.specs.Changes.{everywhere, removed, replaced, replacement}
-use Rattle.dbpl_relation.specs.Equality.{is_same}
-use Rattle.dbpl_relation.specs.Relations.{is_before, record_with}
-
--- a computed equality answers as the test does
-pub equal-is_same : (v w : Value) (answer : Bool) → (IsTrue answer ↔ (v ≡ w)) → answer ≡ is_same v w
-equal-is_same v w answer h =
-    both_ways answer (is_same v w) (λ e. ap (is_same v) (sym (h.0 e)) ∙ is_same-own v) (λ e. h.1 (is_same-equal v w e))
+use Rattle.dbpl_value.specs.Equality.{is_same}
+use Rattle.dbpl_relation.specs.Relations.{stands_before, record_with}
 
 no_but : (b : Bool) → (b ≡ true → ⊥) → b ≡ false
 no_but true h = absurd (h refl)
@@ -142,7 +137,7 @@ module _ (t : DbType) where
   removed-different (first ∷ rest) other (suc place) rises within here differs =
       rw (lacks-unlike other first (first_lacks t (key_of t other) first rest place rises (omega arith) here))
       (ap (λ others. first ∷ others)
-      (removed-different rest other place (second_so (list_all (is_before t first) rest) (keys_rise t rest) rises)
+      (removed-different rest other place (second_so (list_all (stands_before t first) rest) (keys_rise t rest) rises)
       (omega arith) here differs))
 
   -- and else that one alone goes
@@ -157,7 +152,7 @@ module _ (t : DbType) where
   removed-one (first ∷ rest) other (suc place) rises within here same =
       rw (lacks-unlike other first (first_lacks t (key_of t other) first rest place rises (omega arith) here))
       (ap (λ others. first ∷ others)
-      (removed-one rest other place (second_so (list_all (is_before t first) rest) (keys_rise t rest) rises)
+      (removed-one rest other place (second_so (list_all (stands_before t first) rest) (keys_rise t rest) rises)
       (omega arith) here same))
 
   same_turned : (element other : Value) → has_key t (key_of t element) other ≡ has_key t (key_of t other) element
@@ -202,7 +197,7 @@ module _ (t : DbType) where
       (first_lacks t (key_of t element) first rest place rises (omega arith) here))
       ∙ ap (λ others. first ∷ others)
       (replaced-outside inside rest element place
-      (second_so (list_all (is_before t first) rest) (keys_rise t rest) rises) (omega arith) here outside)
+      (second_so (list_all (stands_before t first) rest) (keys_rise t rest) rises) (omega arith) here outside)
 
   -- and else that one does
   pub replaced-one :
@@ -224,7 +219,7 @@ module _ (t : DbType) where
       (first_lacks t (key_of t element) first rest place rises (omega arith) here))
       ∙ ap (λ others. first ∷ others)
       (replaced-one inside rest element place
-      (second_so (list_all (is_before t first) rest) (keys_rise t rest) rises) (omega arith) here within_test)
+      (second_so (list_all (stands_before t first) rest) (keys_rise t rest) rises) (omega arith) here within_test)
 
   pub set-rises :
       (records : List Value) (element : Value) (place : ℕ) → keys_rise t records ≡ true → place < length records →

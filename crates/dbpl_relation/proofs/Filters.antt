@@ -13,8 +13,8 @@ use Rattle.dbpl_value.specs.declared.value.Value.{Value}
 use Rattle.dbpl_relation.proofs.OfType.{are_records-all, are_records-of, are_records-rise}
 use Rattle.dbpl_relation.proofs.Puts.{both_so}
 use Rattle.dbpl_relation.specs.Changes.{everywhere, removed}
-use Rattle.dbpl_relation.specs.Equality.{is_same}
-use Rattle.dbpl_relation.specs.Relations.{are_records, is_among, is_before}
+use Rattle.dbpl_value.specs.Equality.{is_same}
+use Rattle.dbpl_relation.specs.Relations.{are_records, is_among, stands_before}
 
 -- what holds of all holds of those that are kept
 pub kept-all :
@@ -35,11 +35,11 @@ kept-rise t [] records h = refl
 kept-rise t (true ∷ answers) [] h = refl
 kept-rise t (false ∷ answers) [] h = refl
 kept-rise t (true ∷ answers) (first ∷ rest) h =
-    both_so (list_all (is_before t first) (items_where_true answers rest)) (keys_rise t (items_where_true answers rest))
-    (kept-all (is_before t first) answers rest (first_so (list_all (is_before t first) rest) (keys_rise t rest) h))
-    (kept-rise t answers rest (second_so (list_all (is_before t first) rest) (keys_rise t rest) h))
+    both_so (list_all (stands_before t first) (items_where_true answers rest)) (keys_rise t (items_where_true answers rest))
+    (kept-all (stands_before t first) answers rest (first_so (list_all (stands_before t first) rest) (keys_rise t rest) h))
+    (kept-rise t answers rest (second_so (list_all (stands_before t first) rest) (keys_rise t rest) h))
 kept-rise t (false ∷ answers) (first ∷ rest) h =
-    kept-rise t answers rest (second_so (list_all (is_before t first) rest) (keys_rise t rest) h)
+    kept-rise t answers rest (second_so (list_all (stands_before t first) rest) (keys_rise t rest) h)
 
 pub are_records-kept :
     (t : DbType) (answers : List Bool) (records : List Value) → are_records t records ≡ true →
@@ -64,9 +64,9 @@ filter-all p test (x ∷ xs) h =
     (filter-all p test xs (second_so (p x) (list_all p xs) h))
 
 one-rises :
-    (t : DbType) (first : Value) (rest : List Value) (b : Bool) → list_all (is_before t first) rest ≡ true →
+    (t : DbType) (first : Value) (rest : List Value) (b : Bool) → list_all (stands_before t first) rest ≡ true →
     keys_rise t rest ≡ true → keys_rise t (cond b (first ∷ rest) rest) ≡ true
-one-rises t first rest true h g = both_so (list_all (is_before t first) rest) (keys_rise t rest) h g
+one-rises t first rest true h g = both_so (list_all (stands_before t first) rest) (keys_rise t rest) h g
 one-rises t first rest false h g = g
 
 pub filter-rises :
@@ -75,8 +75,8 @@ pub filter-rises :
 filter-rises t test [] h = refl
 filter-rises t test (first ∷ rest) h =
     one-rises t first (filter test rest) (test first)
-    (filter-all (is_before t first) test rest (first_so (list_all (is_before t first) rest) (keys_rise t rest) h))
-    (filter-rises t test rest (second_so (list_all (is_before t first) rest) (keys_rise t rest) h))
+    (filter-all (stands_before t first) test rest (first_so (list_all (stands_before t first) rest) (keys_rise t rest) h))
+    (filter-rises t test rest (second_so (list_all (stands_before t first) rest) (keys_rise t rest) h))
 
 pub are_records-filter :
     (t : DbType) (test : Value → Bool) (records : List Value) → are_records t records ≡ true →

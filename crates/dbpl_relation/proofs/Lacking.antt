@@ -11,7 +11,7 @@ use Rattle.dbpl_value.specs.declared.db_type.DbType.{DbType}
 use Rattle.dbpl_value.specs.declared.value.Value.{Value}
 use Rattle.dbpl_relation.proofs.KeyLemmas.{is_lt-Less, key_cmp-exact}
 use Rattle.dbpl_relation.proofs.Puts.{list_all-at, list_all-mono}
-use Rattle.dbpl_relation.specs.Relations.{is_before}
+use Rattle.dbpl_relation.specs.Relations.{stands_before}
 
 module _ (t : DbType) (key : List (List ℤ)) where
   abbrev pub lacks : Value → Bool
@@ -44,22 +44,22 @@ module _ (t : DbType) (key : List (List ℤ)) where
       (first : Value) (rest : List Value) → keys_rise t (first ∷ rest) ≡ true →
       key_cmp (key_of t first) key ≡ Equal → list_all lacks rest ≡ true
   rest_lacks first rest rises e =
-      list_all-mono (is_before t first) lacks rest
+      list_all-mono (stands_before t first) lacks rest
       (λ element h.
       lacks-Greater element (
       key_cmp_total.antisymm (key_of t element) key
       ∙ ap (λ z. ordering_reverse (key_cmp z (key_of t element))) (sym (key_cmp-exact (key_of t first) key e))
       ∙ ap ordering_reverse (is_lt-Less _ h)
       ))
-      (first_so (list_all (is_before t first) rest) (keys_rise t rest) rises)
+      (first_so (list_all (stands_before t first) rest) (keys_rise t rest) rises)
 
   -- and so does one before it
   pub first_lacks :
       (first : Value) (rest : List Value) (place : ℕ) → keys_rise t (first ∷ rest) ≡ true → place < length rest →
       HoldsAt (λ element. key_cmp (key_of t element) key ≡ Equal) rest place → lacks first ≡ true
   first_lacks first rest place rises within here =
-      let below = list_all-at (is_before t first) rest place first
-      (first_so (list_all (is_before t first) rest) (keys_rise t rest) rises) within
+      let below = list_all-at (stands_before t first) rest place first
+      (first_so (list_all (stands_before t first) rest) (keys_rise t rest) rises) within
       in
       lacks-Less first (
       ap (λ z. key_cmp (key_of t first) z) (sym (key_cmp-exact (key_of t (get_or rest place first)) key (here first)))
@@ -104,4 +104,4 @@ module _ (t : DbType) (key : List (List ℤ)) where
       (any-none test rest (rest_lacks first rest rises (here first)))
   any-one test (first ∷ rest) (suc place) d rises within here =
       only_rest (has_key t key first) (test first) _ (first_lacks first rest place rises (omega arith) here)
-      ∙ any-one test rest place d (second_so (list_all (is_before t first) rest) (keys_rise t rest) rises) (omega arith) here
+      ∙ any-one test rest place d (second_so (list_all (stands_before t first) rest) (keys_rise t rest) rises) (omega arith) here

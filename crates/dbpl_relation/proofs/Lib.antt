@@ -1,6 +1,5 @@
 pub mod Changing
 pub mod EditLemmas
-pub mod EqualityLemmas
 pub mod Filters
 pub mod ExampleTypes
 pub mod FirstAt

@@ -15,7 +15,7 @@ use Rattle.dbpl_value.specs.declared.value.Value.TheOpen as values
 use Rattle.dbpl_value.specs.declared.value.Value.TheVariants as value
 use Rattle.dbpl_value.specs.declared.value.Value.TheVariants.{outs-Rel, rolls-Rel as rolls-Relation}
 use Rattle.dbpl_relation.proofs.Puts.{both_so, merged-all, merged-rises}
-use Rattle.dbpl_relation.specs.Relations.{are_records, is_before, merged, is_relation_level, is_relation_type}
+use Rattle.dbpl_relation.specs.Relations.{are_records, stands_before, merged, is_relation_level, is_relation_type}
 
 -- the records that the level of a type asks for
 level_asks : DbType → DbType-F DbType Field → List Value → Bool
@@ -100,7 +100,7 @@ pub are_records-rest :
 are_records-rest t first rest h =
     are_records-of t rest
     (second_so (is_of (element_of t) first) (list_all (is_of (element_of t)) rest) (are_records-all t (first ∷ rest) h))
-    (second_so (list_all (is_before t first) rest) (keys_rise t rest) (are_records-rise t (first ∷ rest) h))
+    (second_so (list_all (stands_before t first) rest) (keys_rise t rest) (are_records-rise t (first ∷ rest) h))
 
 pub are_records-first :
     (t : DbType) (first : Value) (rest : List Value) → are_records t (first ∷ rest) ≡ true →

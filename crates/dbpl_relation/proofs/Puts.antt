@@ -10,7 +10,7 @@ use Rattle.dbpl_value.proofs.KeyOrder.{key_cmp_total}
 use Rattle.dbpl_value.specs.Keys.{key_cmp, key_of, keys_rise}
 use Rattle.dbpl_value.specs.declared.db_type.DbType.{DbType}
 use Rattle.dbpl_value.specs.declared.value.Value.{Value}
-use Rattle.dbpl_relation.specs.Relations.{is_before, merged, put}
+use Rattle.dbpl_relation.specs.Relations.{stands_before, merged, put}
 use Rattle.dbpl_relation.proofs.KeyLemmas.{is_lt-Less, key_cmp-exact}
 
 pub both_so : (a b : Bool) → a ≡ true → b ≡ true → a && b ≡ true
@@ -73,14 +73,14 @@ module _ (t : DbType) where
   put-found [] element place rises within here = absurd (omega arith)
   put-found (first ∷ rest) element zero rises within here = put-step first rest element Equal (here first)
   put-found (first ∷ rest) element (suc place) rises within here =
-      let below = list_all-at (is_before t first) rest place first
-      (first_so (list_all (is_before t first) rest) (keys_rise t rest) rises) (omega arith)
+      let below = list_all-at (stands_before t first) rest place first
+      (first_so (list_all (stands_before t first) rest) (keys_rise t rest) rises) (omega arith)
       in
       let less = is_lt-Less (order_of first (get_or rest place first)) below in
       let key = key_cmp-exact (key_of t (get_or rest place first)) (key_of t element) (here first) in
       put-step first rest element Less (ap (λ other. key_cmp (key_of t first) other) (sym key) ∙ less)
       ∙ ap (λ others. first ∷ others)
-      (put-found rest element place (second_so (list_all (is_before t first) rest) (keys_rise t rest) rises)
+      (put-found rest element place (second_so (list_all (stands_before t first) rest) (keys_rise t rest) rises)
       (omega arith) here)
 
   put_by-all :
@@ -108,38 +108,38 @@ module _ (t : DbType) where
 
   put_by-rises :
       (first : Value) (rest behind : List Value) (element : Value) (order : Ordering) → order_of first element ≡ order →
-      list_all (is_before t first) rest ≡ true → keys_rise t rest ≡ true →
-      list_all (is_before t first) behind ≡ true → keys_rise t behind ≡ true →
+      list_all (stands_before t first) rest ≡ true → keys_rise t rest ≡ true →
+      list_all (stands_before t first) behind ≡ true → keys_rise t behind ≡ true →
       keys_rise t (put_by element first rest behind order) ≡ true
   put_by-rises first rest behind element Less e before rises before_behind rises_behind =
-      both_so (list_all (is_before t first) behind) (keys_rise t behind) before_behind rises_behind
+      both_so (list_all (stands_before t first) behind) (keys_rise t behind) before_behind rises_behind
   put_by-rises first rest behind element Equal e before rises before_behind rises_behind =
       let key = key_cmp-exact (key_of t first) (key_of t element) e in
-      both_so (list_all (is_before t element) rest) (keys_rise t rest)
-      (list_all-mono (is_before t first) (is_before t element) rest
+      both_so (list_all (stands_before t element) rest) (keys_rise t rest)
+      (list_all-mono (stands_before t first) (stands_before t element) rest
       (λ other h. ap (λ z. is_lt (key_cmp z (key_of t other))) (sym key) ∙ h) before)
       rises
   put_by-rises first rest behind element Greater e before rises before_behind rises_behind =
       let less = turned first element e in
-      both_so (is_before t element first && list_all (is_before t element) rest)
-      (list_all (is_before t first) rest && keys_rise t rest)
-      (both_so (is_before t element first) (list_all (is_before t element) rest) (ap is_lt less)
-      (list_all-mono (is_before t first) (is_before t element) rest
+      both_so (stands_before t element first && list_all (stands_before t element) rest)
+      (list_all (stands_before t first) rest && keys_rise t rest)
+      (both_so (stands_before t element first) (list_all (stands_before t element) rest) (ap is_lt less)
+      (list_all-mono (stands_before t first) (stands_before t element) rest
       (λ other h.
       ap is_lt (
       key_cmp_total.trans (key_of t element) (key_of t first) (key_of t other) less
       (is_lt-Less (order_of first other) h)
       ))
       before))
-      (both_so (list_all (is_before t first) rest) (keys_rise t rest) before rises)
+      (both_so (list_all (stands_before t first) rest) (keys_rise t rest) before rises)
 
   by_before :
       (first element : Value) (rest : List Value) (order : Ordering) → order_of first element ≡ order →
-      list_all (is_before t first) rest ≡ true → keys_rise t rest ≡ true → keys_rise t (put t rest element) ≡ true →
+      list_all (stands_before t first) rest ≡ true → keys_rise t rest ≡ true → keys_rise t (put t rest element) ≡ true →
       keys_rise t (put_by element first rest (put t rest element) order) ≡ true
   by_before first element rest Less e before rises behind =
       put_by-rises first rest (put t rest element) element Less e before rises
-      (put-all (is_before t first) rest element (ap is_lt e) before) behind
+      (put-all (stands_before t first) rest element (ap is_lt e) before) behind
   by_before first element rest Equal e before rises behind =
       put_by-rises first rest rest element Equal e before rises before rises
   by_before first element rest Greater e before rises behind =
@@ -150,8 +150,8 @@ module _ (t : DbType) where
       (records : List Value) (element : Value) → keys_rise t records ≡ true → keys_rise t (put t records element) ≡ true
   put-rises [] element h = refl
   put-rises (first ∷ rest) element h =
-      let before = first_so (list_all (is_before t first) rest) (keys_rise t rest) h in
-      let rises = second_so (list_all (is_before t first) rest) (keys_rise t rest) h in
+      let before = first_so (list_all (stands_before t first) rest) (keys_rise t rest) h in
+      let rises = second_so (list_all (stands_before t first) rest) (keys_rise t rest) h in
       by_before first element rest (order_of first element) refl before rises (put-rises rest element rises)
 
   pub merged-all :

@@ -8,7 +8,7 @@ use Rattle.dbpl_value.specs.Keys.{key_of}
 use Rattle.dbpl_value.specs.declared.db_type.DbType.{DbType}
 use Rattle.dbpl_value.specs.declared.value.Value.{Value}
 use Rattle.dbpl_value.specs.declared.value.Value.TheVariants as value
-use Rattle.dbpl_relation.specs.Equality.{is_same}
+use Rattle.dbpl_value.specs.Equality.{is_same}
 use Rattle.dbpl_relation.specs.Relations.{have_one_key, is_among, merged, record_with}
 use Rattle.dbpl_relation.specs.declared.change_err.ChangeErr.{ChangeErr}
 use Rattle.dbpl_relation.specs.declared.change_err.ChangeErr.TheVariants as change_err

@@ -1,4 +1,3 @@
 pub mod Changes
-pub mod Equality
 pub mod Examples
 pub mod Relations

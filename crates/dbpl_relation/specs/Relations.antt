@@ -9,7 +9,7 @@ use Rattle.dbpl_value.specs.Values.{is_of}
 use Rattle.dbpl_value.specs.declared.db_type.DbType.{DbType, DbType-F, out-DbType}
 use Rattle.dbpl_value.specs.declared.db_type.DbType.TheOpen as kinds
 use Rattle.dbpl_value.specs.declared.value.Value.{Value}
-use Rattle.dbpl_relation.specs.Equality.{is_same}
+use Rattle.dbpl_value.specs.Equality.{is_same}
 
 abbrev pub is_relation_level : {X Y : Type 0} → DbType-F X Y → Bool
 is_relation_level (kinds.Rel keys record_type) = true
@@ -32,8 +32,8 @@ abbrev pub have_one_key : DbType → Value → Value → Bool
 have_one_key t element other = has_key t (key_of t element) other
 
 -- the first record stands before the second
-abbrev pub is_before : DbType → Value → Value → Bool
-is_before t element other = is_lt (key_cmp (key_of t element) (key_of t other))
+abbrev pub stands_before : DbType → Value → Value → Bool
+stands_before t element other = is_lt (key_cmp (key_of t element) (key_of t other))
 
 -- the record is equal to one of these
 abbrev pub is_among : List Value → Value → Bool
@@ -43,7 +43,7 @@ is_among records element = list_any (λ other. is_same other element) records
 abbrev pub put : DbType → List Value → Value → List Value
 put t [] element = element ∷ []
 put t (first ∷ rest) element =
-    if is_before t first element then first ∷ put t rest element
+    if stands_before t first element then first ∷ put t rest element
     else if have_one_key t element first then element ∷ rest else element ∷ first ∷ rest
 
 -- the records of both lists in the order of keys, where one of the second takes the place of one with its key

@@ -5,7 +5,7 @@ use Rattle.std.specs.Prelude.{IfSome, IsTrue, pos, slice_get, slice_set}
 use Rattle.std.specs.Option.{option_map_or}
 use Rattle.dbpl_value.proofs.ValuesLemmas.{is_of-step}
 use Rattle.dbpl_value.specs.Keys.{parts_of}
-use Rattle.dbpl_value.specs.Paths.{part_at, place_of, refusal_of, type_at, type_at_path, with_part_at, with_parts}
+use Rattle.dbpl_value.specs.Paths.{part_at, place_of, refusal_of, type_at_step, type_at_path, with_part_at, with_parts}
 use Rattle.dbpl_value.specs.Values.{is_of}
 use Rattle.dbpl_value.specs.declared.db_type.DbType.{DbType}
 use Rattle.dbpl_value.specs.declared.step.Step.{Step}
@@ -23,7 +23,7 @@ pub reached-next :
     (t : DbType) (v : Value) (path : List Step) (i : ℕ) (kind : DbType) (part : Value) (step : Step) (next : Value) →
     Reached t v path i kind part → i < length path → step ≡ get_or path i step →
     slice_get (parts_of part) (place_of kind part step) ≡ Some next →
-    Reached t v path (i + 1) (type_at kind step) next
+    Reached t v path (i + 1) (type_at_step kind step) next
 reached-next t v path i kind part step next reached h e found = record {
   same_part = reached.same_part ∙ rw (drop-cons path i step, ← e, found, add-one) refl;
   same_type = reached.same_type ∙ rw (drop-cons path i step, ← e, add-one) refl;
@@ -101,7 +101,7 @@ Rel_wraps = record {
 pub put_wrapped :
     (wrap : List Value → Value) (wraps : Wraps wrap) (t : DbType) (parts : List Value) (path : List Step) (step : Step)
     (new : Value) (place : ℕ) (kind : DbType) (result : List Value) → 1 ≤ length path → step ≡ get_or path 0 step →
-    IsTrue (is_of t (wrap parts)) → place ≡ place_of t (wrap parts) step → kind ≡ type_at t step →
+    IsTrue (is_of t (wrap parts)) → place ≡ place_of t (wrap parts) step → kind ≡ type_at_step t step →
     PutIn kind parts place (rest_of path) new result → wrap result ≡ with_part_at t (wrap parts) path new
 put_wrapped wrap wraps t parts path step new place kind result some first typed at of put =
     by_part (slice_get parts place) refl put

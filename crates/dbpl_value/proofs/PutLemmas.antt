@@ -9,9 +9,9 @@ use Rattle.std.specs.List.{list_all, zip}
 use Rattle.std.specs.Option.{option_map_or}
 use Rattle.std.specs.Ordering.{is_lt}
 use Rattle.std.specs.Prelude.{IfSome, nat_eq, slice_get, slice_set}
-use Rattle.dbpl_value.proofs.ValuesLemmas.{is_of-out, is_of-step, list_all-slice_get, number_has_none, tested, type_at-part}
+use Rattle.dbpl_value.proofs.ValuesLemmas.{is_of-out, is_of-step, list_all-slice_get, number_has_none, tested, type_at_step-part}
 use Rattle.dbpl_value.specs.Keys.{key_cmp, key_of, keys_rise, parts_level, parts_of}
-use Rattle.dbpl_value.specs.Paths.{KeepsKeys, part_type, part_type_level, place_of, type_at, type_at_path, with_part, with_part_at, with_parts}
+use Rattle.dbpl_value.specs.Paths.{KeepsKeys, part_type, part_type_level, place_of, type_at_step, type_at_path, with_part, with_part_at, with_parts}
 use Rattle.dbpl_value.specs.Types.{range_level}
 use Rattle.dbpl_value.specs.Values.{is_of, is_of_level}
 use Rattle.dbpl_value.specs.declared.db_type.DbType.{DbType, DbType-F, out-DbType, roll-DbType, roll-out-DbType}
@@ -133,18 +133,18 @@ pub is_of-with_part_at :
     KeepsKeys t v path new → is_of t (with_part_at t v path new) ≡ true
 is_of-with_part_at t v [] new h typed keeps = typed
 is_of-with_part_at t v (next ∷ path) new h typed keeps =
-    by_part (λ part of_type kept. is_of-with_part_at (type_at t next) part path new of_type typed kept)
+    by_part (λ part of_type kept. is_of-with_part_at (type_at_step t next) part path new of_type typed kept)
     (slice_get (parts_of v) (place_of t v next)) refl keeps
   where
     by_part :
-        ((part : Value) → is_of (type_at t next) part ≡ true → KeepsKeys (type_at t next) part path new →
-        is_of (type_at t next) (with_part_at (type_at t next) part path new) ≡ true) →
+        ((part : Value) → is_of (type_at_step t next) part ≡ true → KeepsKeys (type_at_step t next) part path new →
+        is_of (type_at_step t next) (with_part_at (type_at_step t next) part path new) ≡ true) →
         (o : Option Value) → slice_get (parts_of v) (place_of t v next) ≡ o →
-        IfSome o (λ part. (key_of t (with_part_at (type_at t next) part path new) ≡ key_of t part)
-        × KeepsKeys (type_at t next) part path new) →
-        is_of t (option_map_or (λ part. with_part v (place_of t v next) (with_part_at (type_at t next) part path new)) o v) ≡ true
+        IfSome o (λ part. (key_of t (with_part_at (type_at_step t next) part path new) ≡ key_of t part)
+        × KeepsKeys (type_at_step t next) part path new) →
+        is_of t (option_map_or (λ part. with_part v (place_of t v next) (with_part_at (type_at_step t next) part path new)) o v) ≡ true
     by_part deeper None e keeps = h
     by_part deeper (Some part) e keeps =
         let inner = deeper part (is_of-step t v next part h e) keeps.1 in
-        is_of-with_part t v (place_of t v next) part (with_part_at (type_at t next) part path new) h e
-        (ap (λ (k : DbType). is_of k (with_part_at (type_at t next) part path new)) (type_at-part t v next part h e) ∙ inner) keeps.0
+        is_of-with_part t v (place_of t v next) part (with_part_at (type_at_step t next) part path new) h e
+        (ap (λ (k : DbType). is_of k (with_part_at (type_at_step t next) part path new)) (type_at_step-part t v next part h e) ∙ inner) keeps.0

@@ -12,7 +12,7 @@ use Rattle.dbpl_value.proofs.StartLemmas.{started}
 use Rattle.dbpl_value.proofs.TypeParts.{by_parts-out, type_induction}
 use Rattle.dbpl_value.proofs.ValuesLemmas.{is_of-out, tested}
 use Rattle.dbpl_value.specs.Types.{count_of, inside, inside_level, is_in, is_sound, is_sound_level, is_type, keeps_rules}
-use Rattle.dbpl_value.specs.Values.{is_number, is_of, is_of_level, start_level, start_number, start_of}
+use Rattle.dbpl_value.specs.Values.{is_number, is_of, is_of_level, start_level, start_number, start_value_of}
 use Rattle.dbpl_value.specs.declared.db_type.DbType.{DbType, DbType-F, map-DbType, out-DbType, out-roll-DbType, roll-DbType}
 use Rattle.dbpl_value.specs.declared.db_type.DbType.TheOpen as kinds
 use Rattle.dbpl_value.specs.declared.field.Field.{Field}
@@ -21,7 +21,7 @@ use Rattle.dbpl_value.specs.declared.value.Value.{Value, out-Value}
 use Rattle.dbpl_value.specs.declared.value.Value.TheVariants as value
 
 abbrev IsTyped : DbType → Type 0
-IsTyped t = is_sound t ≡ true → is_of t (start_of t) ≡ true
+IsTyped t = is_sound t ≡ true → is_of t (start_value_of t) ≡ true
 
 abbrev Held : Type 0
 Held = DbType-F ((t : DbType) × IsTyped t) ((field : Field) × IsTyped field.kind)
@@ -63,7 +63,7 @@ nat_eq-refl n = grind (arith, nat_tests)
 
 long_alike :
     (fields : List Field) →
-    nat_eq (length (map (λ (field : Field × Value). field.1) (map (λ (field : Field). (field, start_of field.kind)) fields)))
+    nat_eq (length (map (λ (field : Field × Value). field.1) (map (λ (field : Field). (field, start_value_of field.kind)) fields)))
     (length (map (λ (field : Field × (Value → Bool)). field.1) (map (λ (field : Field). (field, is_of field.kind)) fields)))
     ≡ true
 long_alike fields = simp length-map (nat_eq-refl (length fields))
@@ -77,7 +77,7 @@ record_typed :
     (map (λ (field : Field × (Value → Bool)). field.1)
     (map (λ (field : Field). (field, is_of field.kind)) (map (λ (h : (field : Field) × IsTyped field.kind). h.0) held)))
     (map (λ (field : Field × Value). field.1)
-    (map (λ (field : Field). (field, start_of field.kind)) (map (λ (h : (field : Field) × IsTyped field.kind). h.0) held))))
+    (map (λ (field : Field). (field, start_value_of field.kind)) (map (λ (h : (field : Field) × IsTyped field.kind). h.0) held))))
     ≡ true
 record_typed [] h = refl
 record_typed (field ∷ held) h =
@@ -102,8 +102,8 @@ level_typed (kinds.Arr index element) own within =
     let count = count_of index.0 in
     let elements = sym (list_all-append keeps_rules (index.0 ∷ inside index.0) (element.0 ∷ inside element.0)) ∙ within in
     let typed = element.1 (second_so (list_all keeps_rules (index.0 ∷ inside index.0)) (is_sound element.0) elements) in
-    rw (value.outs-Arr (replicate count (start_of element.0)))
-    (both_true (long count (start_of element.0)) (list_all-replicate (is_of element.0) count (start_of element.0) typed))
+    rw (value.outs-Arr (replicate count (start_value_of element.0)))
+    (both_true (long count (start_value_of element.0)) (list_all-replicate (is_of element.0) count (start_value_of element.0) typed))
   where
     long : (count : ℕ) (v : Value) → nat_eq (length (replicate count v)) count ≡ true
     long count v = rw (length-replicate count v) (nat_eq-refl count)
@@ -111,8 +111,8 @@ level_typed (kinds.Rec fields) own within = rw (value.outs-Rec _)
     (both_true (long_alike (map (λ (h : (field : Field) × IsTyped field.kind). h.0) fields)) (record_typed fields within))
 level_typed (kinds.Rel keys record_type) own within = rw (value.outs-Rel []) refl
 
-start_of-sound : (t : DbType) → IsTyped t
-start_of-sound = type_induction IsTyped step
+start_value_of-sound : (t : DbType) → IsTyped t
+start_value_of-sound = type_induction IsTyped step
   where
     step : (level : Held) → IsTyped (roll-DbType (plain level))
     step level sound =
@@ -126,15 +126,15 @@ start_of-sound = type_induction IsTyped step
         ∙ sym (ap (list_all keeps_rules) (by_parts-out (List DbType) inside_level (roll-DbType (plain level))))
         ∙ second_so (keeps_rules (roll-DbType (plain level))) _ sound
         in
-        is_of-out (roll-DbType (plain level)) (start_of (roll-DbType (plain level)))
+        is_of-out (roll-DbType (plain level)) (start_value_of (roll-DbType (plain level)))
         ∙ ap (λ (v : Value). is_of_level (tested (out-DbType (roll-DbType (plain level)))) (out-Value v))
         (by_parts-out Value start_level (roll-DbType (plain level)))
         ∙ ap (λ (d : DbType-F DbType Field). is_of_level (tested d) (out-Value (start_level (started d)))) out
         ∙ level_typed level own inner
 
 -- the start value of a type is a value of the type
-pub is_of-start_of : (t : DbType) → is_type t ≡ true → is_of t (start_of t) ≡ true
-is_of-start_of t h = start_of-sound t (first_so (is_sound t) _ (first_so _ _ h))
+pub is_of-start_value_of : (t : DbType) → is_type t ≡ true → is_of t (start_value_of t) ≡ true
+is_of-start_value_of t h = start_value_of-sound t (first_so (is_sound t) _ (first_so _ _ h))
 
-pub typed_start : (t : DbType) (v : Value) → v ≡ start_of t → is_type t ≡ true → is_of t v ≡ true
-typed_start t v e h = ap (λ (w : Value). is_of t w) e ∙ is_of-start_of t h
+pub typed_start : (t : DbType) (v : Value) → v ≡ start_value_of t → is_type t ≡ true → is_of t v ≡ true
+typed_start t v e h = ap (λ (w : Value). is_of t w) e ∙ is_of-start_value_of t h

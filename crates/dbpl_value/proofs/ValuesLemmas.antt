@@ -8,7 +8,7 @@ use Rattle.std.specs.Option.{option_map_or}
 use Rattle.std.specs.Prelude.{nat_eq}
 use Rattle.dbpl_value.proofs.TypeParts.{by_parts-out}
 use Rattle.dbpl_value.specs.Keys.{has_key, key_from, keys_rise, parts_level, parts_of}
-use Rattle.dbpl_value.specs.Paths.{part_type, part_type_level, place_of, place_of_key, type_at}
+use Rattle.dbpl_value.specs.Paths.{part_type, part_type_level, place_of, place_of_key, type_at_step}
 use Rattle.dbpl_value.specs.Types.{element_level, range_level}
 use Rattle.dbpl_value.specs.Values.{is_number, is_of, is_of_level}
 use Rattle.dbpl_value.specs.declared.db_type.DbType.{DbType, DbType-F, map-DbType, out-DbType, roll-DbType, roll-out-DbType}
@@ -127,20 +127,20 @@ key_step t (kinds.Rec fields) (values.Rel parts) test part h e = cc
 key_step t (kinds.Rel keys record_type) v test part h e = refl
 
 -- the part to which a step leads stands where its type is that at the step
-pub type_at-part :
+pub type_at_step-part :
     (t : DbType) (v : Value) (next : Step) (part : Value) → is_of t v ≡ true →
-    slice_get (parts_of v) (place_of t v next) ≡ Some part → part_type t (place_of t v next) ≡ type_at t next
-type_at-part t v (step.Field number) part h e = refl
-type_at-part t v (step.Index number) part h e = refl
-type_at-part t v (step.Key components) part h e =
+    slice_get (parts_of v) (place_of t v next) ≡ Some part → part_type t (place_of t v next) ≡ type_at_step t next
+type_at_step-part t v (step.Field number) part h e = refl
+type_at_step-part t v (step.Index number) part h e = refl
+type_at_step-part t v (step.Key components) part h e =
     key_step t (out-DbType t) (out-Value v) (has_key t (key_from components)) part (sym (is_of-out t v) ∙ h) e
 
 -- the part to which a step leads is of the type at that step
 pub is_of-step :
     (t : DbType) (v : Value) (next : Step) (part : Value) → is_of t v ≡ true →
-    slice_get (parts_of v) (place_of t v next) ≡ Some part → is_of (type_at t next) part ≡ true
+    slice_get (parts_of v) (place_of t v next) ≡ Some part → is_of (type_at_step t next) part ≡ true
 is_of-step t v next part h e =
-    subst (λ (kind : DbType). is_of kind part ≡ true) (type_at-part t v next part h e)
+    subst (λ (kind : DbType). is_of kind part ≡ true) (type_at_step-part t v next part h e)
     (is_of-part t v (place_of t v next) part h e)
 
 relation_rises :

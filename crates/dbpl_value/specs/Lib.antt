@@ -1,3 +1,6 @@
+pub mod Binding
+pub mod Databases
+pub mod Equality
 pub mod Keys
 pub mod Paths
 pub mod Sizes

@@ -37,15 +37,15 @@ abbrev pub part_type : DbType → ℕ → DbType
 part_type t place = part_type_level t place (out-DbType t)
 
 -- the type of the part to which a step leads
-abbrev pub type_at : DbType → Step → DbType
-type_at t (step.Field number) = part_type t number
-type_at t (step.Index number) = part_type t number
-type_at t (step.Key components) = element_of t
+abbrev pub type_at_step : DbType → Step → DbType
+type_at_step t (step.Field number) = part_type t number
+type_at_step t (step.Index number) = part_type t number
+type_at_step t (step.Key components) = element_of t
 
 -- the type of the part to which a path leads
 abbrev pub type_at_path : DbType → List Step → DbType
 type_at_path t [] = t
-type_at_path t (next ∷ path) = type_at_path (type_at t next) path
+type_at_path t (next ∷ path) = type_at_path (type_at_step t next) path
 
 -- what is answered where the step with this number leads to no part
 abbrev pub refusal_of : ℕ → Step → PathErr
@@ -57,7 +57,7 @@ refusal_of number (step.Key components) = path_err.NoElement number
 abbrev pub part_at : ℕ → DbType → Value → List Step → Result Value PathErr
 part_at number t v [] = Ok v
 part_at number t v (next ∷ path) =
-    option_map_or (λ part. part_at (number + 1) (type_at t next) part path) (slice_get (parts_of v) (place_of t v next))
+    option_map_or (λ part. part_at (number + 1) (type_at_step t next) part path) (slice_get (parts_of v) (place_of t v next))
     (Err (refusal_of number next))
 
 -- the value with other parts
@@ -75,7 +75,7 @@ with_part v place part = with_parts (out-Value v) (slice_set (parts_of v) place 
 abbrev pub with_part_at : DbType → Value → List Step → Value → Value
 with_part_at t v [] new = new
 with_part_at t v (next ∷ path) new =
-    option_map_or (λ part. with_part v (place_of t v next) (with_part_at (type_at t next) part path new))
+    option_map_or (λ part. with_part v (place_of t v next) (with_part_at (type_at_step t next) part path new))
     (slice_get (parts_of v) (place_of t v next)) v
 
 -- putting `new` at a path leaves the key of each record on the path as it is
@@ -83,5 +83,5 @@ abbrev pub KeepsKeys : DbType → Value → List Step → Value → Type 0
 KeepsKeys t v [] new = ⊤
 KeepsKeys t v (next ∷ path) new =
     IfSome (slice_get (parts_of v) (place_of t v next))
-    (λ part. (key_of t (with_part_at (type_at t next) part path new) ≡ key_of t part)
-    × KeepsKeys (type_at t next) part path new)
+    (λ part. (key_of t (with_part_at (type_at_step t next) part path new) ≡ key_of t part)
+    × KeepsKeys (type_at_step t next) part path new)

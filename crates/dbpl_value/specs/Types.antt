@@ -4,6 +4,7 @@ use Rattle.std.specs.Cmp.Lexicographic.{pointwise}
 use Rattle.std.specs.List.{flat_map, list_all, list_any}
 use Rattle.std.specs.Option.{option_map_or}
 use Rattle.dbpl_base.specs.Words.{is_letter, is_word_byte}
+use Rattle.dbpl_base.specs.declared.limits.TheConstants.{RELATION_DEPTH, SCALARS, TYPE_DEPTH}
 use Rattle.dbpl_value.specs.declared.db_type.DbType.{DbType, DbType-F, fold-DbType, out-DbType, para-DbType}
 use Rattle.dbpl_value.specs.declared.db_type.DbType.TheOpen as kinds
 use Rattle.dbpl_value.specs.declared.field.Field.{Field}
@@ -129,6 +130,17 @@ abbrev pub is_none_left : {A : Type 0} → List A → Bool
 is_none_left [] = true
 is_none_left (x ∷ xs) = false
 
+-- ---- fields by their names
+
+-- the type of the field of this name, and `t` where there is none
+abbrev pub type_named : DbType → List Field → List ℕ → DbType
+type_named t [] name = t
+type_named t (field ∷ fields) name = if is_same_name field.name name then field.kind else type_named t fields name
+
+-- the type of the key field of this name in a relation of type `t`
+abbrev pub key_type : DbType → List ℕ → DbType
+key_type t name = type_named t (fields_of (element_of t)) name
+
 -- ---- limits
 
 -- How many scalars a value has. An array has those of its elements; a relation, and a record without fields, count one.
@@ -195,7 +207,7 @@ is_sound_level (kinds.Rel keys record_type) = is_relation keys record_type
 is_sound_level _ = true
 
 abbrev pub keeps_rules : DbType → Bool
-keeps_rules t = is_sound_level (out-DbType t) && nat_le (scalars_of t) 65536
+keeps_rules t = is_sound_level (out-DbType t) && nat_le (scalars_of t) SCALARS
 
 -- the types that stand inside a type, at every depth
 abbrev pub inside_level : DbType-F (DbType × List DbType) (Field × List DbType) → List DbType
@@ -212,6 +224,6 @@ inside t = by_parts (List DbType) inside_level t
 abbrev pub is_sound : DbType → Bool
 is_sound t = list_all keeps_rules (t ∷ inside t)
 
--- THE test of a descriptor: sound, to depth 64 at most, and with relations to depth 8 at most
+-- THE test of a descriptor: sound, and neither types nor relation types deeper inside one another than they may stand
 abbrev pub is_type : DbType → Bool
-is_type t = is_sound t && nat_le (depth_of t) 64 && nat_le (relations_of t) 8
+is_type t = is_sound t && nat_le (depth_of t) TYPE_DEPTH && nat_le (relations_of t) RELATION_DEPTH

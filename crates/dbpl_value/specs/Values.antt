@@ -56,5 +56,5 @@ start_level (kinds.Rel keys record_type) = value.Rel []
 start_level ordinal = value.Num (option_map_or start_number (range_level ordinal) (pos 0))
 
 -- THE value with which a variable begins: arrays and records by their parts, relations empty
-abbrev pub start_of : DbType → Value
-start_of t = by_parts Value start_level t
+abbrev pub start_value_of : DbType → Value
+start_value_of t = by_parts Value start_level t

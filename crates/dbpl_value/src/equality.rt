@@ -1,12 +1,20 @@
 //! Which types and which values are equal.
 ghost use Rattle.std.specs.Prelude.{◌≡◌, ◌↔◌, IsTrue};
+ghost use Rattle.dbpl_value.specs.Equality.{is_same, is_same_type};
 
 use crate::{DbType, Field, Value};
 use dbpl_base::Name;
 
 /// Whether two descriptors are equal.
-#[cycle(same_types)]
 pub fn same_type(a: &DbType, b: &DbType) -> bool
+    ensures equal { IsTrue result ↔ (a.now ≡ b.now) }
+    ensures computed { result ≡ is_same_type a.now b.now }
+{
+    are_equal_types(a, b)
+}
+
+#[cycle(same_types)]
+fn are_equal_types(a: &DbType, b: &DbType) -> bool
     ensures { IsTrue result ↔ (a.now ≡ b.now) }
 {
     match (a, b) {
@@ -18,17 +26,18 @@ pub fn same_type(a: &DbType, b: &DbType) -> bool
             same_names(names.as_slice(), others.as_slice())
         }
         (DbType::Sub(host, least, greatest), DbType::Sub(other, low, high)) => {
-            *least == *low && *greatest == *high && same_type(host.get(), other.get())
+            *least == *low && *greatest == *high && are_equal_types(host.get(), other.get())
         }
         (DbType::Arr(index, element), DbType::Arr(other_index, other_element)) => {
-            same_type(index.get(), other_index.get())
-                && same_type(element.get(), other_element.get())
+            are_equal_types(index.get(), other_index.get())
+                && are_equal_types(element.get(), other_element.get())
         }
         (DbType::Rec(fields), DbType::Rec(others)) => {
             same_fields(fields.as_slice(), others.as_slice())
         }
         (DbType::Rel(keys, record), DbType::Rel(others, other)) => {
-            same_names(keys.as_slice(), others.as_slice()) && same_type(record.get(), other.get())
+            same_names(keys.as_slice(), others.as_slice())
+                && are_equal_types(record.get(), other.get())
         }
         _ => false,
     }
@@ -53,7 +62,7 @@ fn same_fields(fields: &[Field], others: &[Field]) -> bool
 fn same_field(field: &Field, other: &Field) -> bool
     ensures { IsTrue result ↔ (field.now ≡ other.now) }
 {
-    field.name == other.name && same_type(&field.kind, &other.kind)
+    field.name == other.name && are_equal_types(&field.kind, &other.kind)
 }
 
 fn same_names(names: &[Name], others: &[Name]) -> bool
@@ -71,8 +80,15 @@ fn same_names(names: &[Name], others: &[Name]) -> bool
 }
 
 /// Whether two values are equal, with all that is in them.
-#[cycle(equal_values)]
 pub fn equal(a: &Value, b: &Value) -> bool
+    ensures equal { IsTrue result ↔ (a.now ≡ b.now) }
+    ensures computed { result ≡ is_same a.now b.now }
+{
+    are_equal(a, b)
+}
+
+#[cycle(equal_values)]
+fn are_equal(a: &Value, b: &Value) -> bool
     ensures { IsTrue result ↔ (a.now ≡ b.now) }
 {
     match (a, b) {
@@ -92,7 +108,7 @@ fn all_equal(parts: &[Value], others: &[Value]) -> bool
         return false;
     }
     for i in 0..parts.len() {
-        if !equal(&parts[i], &others[i]) {
+        if !are_equal(&parts[i], &others[i]) {
             return false;
         }
     }

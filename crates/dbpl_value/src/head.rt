@@ -1,5 +1,5 @@
 use crate::{DbType, Param};
-use dbpl_base::{List, Name};
+use dbpl_base::{List, Name, Shared};
 
 /// The heading of a procedure or a transaction.
 #[derive(Debug, Drop)]
@@ -7,5 +7,5 @@ pub struct Head {
     pub name: Name,
     pub transaction: bool,
     pub params: List<Param>,
-    pub result: Option<DbType>,
+    pub result: Option<Shared<DbType>>,
 }

@@ -2,7 +2,7 @@
 ghost use Rattle.std.specs.Prelude.{◌≡◌, ◌^◌, IfNone, IfSome, slice_get};
 ghost use Rattle.std.specs.Option.{option_copied};
 ghost use Rattle.dbpl_value.specs.Keys.{component_values as values_of_component, number_of as number_of_value, parts_of as parts_of_value};
-ghost use Rattle.dbpl_value.specs.Types.{count_of as count_of_type, element_of as element_of_type, fields_of as fields_of_type, keys_of as keys_of_type, range_of as range_of_type};
+ghost use Rattle.dbpl_value.specs.Types.{count_of as count_of_type, element_of as element_of_type, fields_of as fields_of_type, is_char_array as is_char_array_type, is_host as is_host_type, keys_of as keys_of_type, range_of as range_of_type};
 
 use crate::{DbType, Field, Range, Value};
 use dbpl_base::Name;
@@ -79,6 +79,26 @@ pub fn count_of(t: &DbType) -> Option<u64>
     match range_of(t) {
         Some(range) => range.count(),
         None => Some(0),
+    }
+}
+
+/// What a subrange may be one of: an ordinal type that is no subrange.
+pub fn is_host(t: &DbType) -> bool
+    ensures { result ≡ is_host_type t.now }
+{
+    matches!(
+        t,
+        DbType::Int | DbType::Card | DbType::Bool | DbType::Char | DbType::Enum(_)
+    )
+}
+
+/// An array whose elements are CHAR itself.
+pub fn is_char_array(t: &DbType) -> bool
+    ensures { result ≡ is_char_array_type t.now }
+{
+    match t {
+        DbType::Arr(_, element) => matches!(element.get(), DbType::Char),
+        _ => false,
     }
 }
 

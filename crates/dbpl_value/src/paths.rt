@@ -4,7 +4,7 @@ ghost use Rattle.std.specs.List.{position_or_len};
 ghost use Rattle.std.specs.Option.{option_map_or};
 ghost use Rattle.std.specs.Result.{result_map_both};
 ghost use Rattle.dbpl_value.specs.Keys.{has_key, key_from, keys_rise};
-ghost use Rattle.dbpl_value.specs.Paths.{KeepsKeys, part_at, part_type as part_type_of, place_of as place_of_step, refusal_of as refusal_of_step, type_at as type_at_step, type_at_path, with_part_at};
+ghost use Rattle.dbpl_value.specs.Paths.{KeepsKeys, part_at, part_type as part_type_of, place_of as place_of_step, refusal_of as refusal_of_step, type_at_step, type_at_path, with_part_at};
 ghost use Rattle.dbpl_value.specs.Values.{is_of};
 
 use crate::keys::order_to_key;

@@ -2,7 +2,7 @@
 ghost use Rattle.std.specs.Prelude.{◌≡◌, IfOk, IsTrue, map, pos, replicate};
 ghost use Rattle.std.specs.Option.{option_map_or};
 ghost use Rattle.dbpl_value.specs.Types.{is_type, range_of as range_of_type};
-ghost use Rattle.dbpl_value.specs.Values.{is_of, start_number as start_number_of, start_of};
+ghost use Rattle.dbpl_value.specs.Values.{is_of, start_number as start_number_of, start_value_of};
 
 use crate::levels::{count_of, range_of};
 use crate::{DbType, Field, Value};
@@ -12,7 +12,7 @@ use std::alloc::Global;
 /// The value with which a variable of type `t` begins.
 #[cycle(starts)]
 pub fn start_value(alloc: Global, t: &DbType) -> Result<Value, Memory>
-    ensures value { IfOk result (λ v. v ≡ start_of t.now) }
+    ensures value { IfOk result (λ v. v ≡ start_value_of t.now) }
     ensures of_type { IsTrue (is_type t.now) → IfOk result (λ v. IsTrue (is_of t.now v)) }
 {
     match t {
@@ -29,7 +29,7 @@ pub fn start_value(alloc: Global, t: &DbType) -> Result<Value, Memory>
 /// So many start values of the element type.
 #[cycle(starts)]
 fn start_elements(alloc: Global, element: &DbType, count: u64) -> Result<List<Value>, Memory>
-    ensures { IfOk result (λ parts. parts ≡ replicate count (start_of element.now)) }
+    ensures { IfOk result (λ parts. parts ≡ replicate count (start_value_of element.now)) }
 {
     let mut parts = List::new(alloc);
     for _at in 0..count {
@@ -40,7 +40,7 @@ fn start_elements(alloc: Global, element: &DbType, count: u64) -> Result<List<Va
 
 #[cycle(starts)]
 fn start_fields(alloc: Global, fields: &[Field]) -> Result<List<Value>, Memory>
-    ensures { IfOk result (λ parts. parts ≡ map (λ field. start_of field.kind) fields.now) }
+    ensures { IfOk result (λ parts. parts ≡ map (λ field. start_value_of field.kind) fields.now) }
 {
     let mut parts = List::new(alloc);
     for field in fields {

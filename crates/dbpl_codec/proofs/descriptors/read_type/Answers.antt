@@ -11,7 +11,7 @@ returns-in_err-t-clause-only c = λ t type fits e.
 pub returns-then-branch-clause-found : goal.returns-then-branch-clause-found
 returns-then-branch-clause-found c =
     type_found c.in_ok-t.t c.args.bytes.now (λ i. omega (arith, c.type_inv.bytes i)) c.in_ok-t.ensures
-    (sym c.in_ok-keeps_rules.ensures ∙ c.if-branch.true)
+    (sym c.in_ok-is_type.ensures ∙ c.if-branch.true)
 
 pub returns-then-branch-clause-only : goal.returns-then-branch-clause-only
 returns-then-branch-clause-only c = λ t type fits e. sym (type_read t c.args.bytes.now type fits e) ∙ c.in_ok-t.ensures
@@ -19,4 +19,4 @@ returns-then-branch-clause-only c = λ t type fits e. sym (type_read t c.args.by
 pub returns-else-branch-clause-only : goal.returns-else-branch-clause-only
 returns-else-branch-clause-only c = λ t type fits e ne.
     absurd (unkept t c.in_ok-t.t c.args.bytes.now c.in_ok-t.ensures type fits e
-    (sym c.in_ok-keeps_rules.ensures ∙ c.if-branch.false))
+    (sym c.in_ok-is_type.ensures ∙ c.if-branch.false))

@@ -1,9 +1,9 @@
 use Rattle.std.proofs.Common.{◌≡◌, ◌<◌, ◌≤◌, min, length, get_or, arith}
 use Rattle.dbpl_value.proofs.Pairs.{take-zip-all}
-use Rattle.dbpl_value.specs.Types.{keys_of}
+use Rattle.dbpl_value.specs.Types.{key_type, keys_of}
 use Rattle.dbpl_codec.proofs.Growing.{begins-behind}
 use Rattle.dbpl_codec.proofs.ValueBytes.{pairs-more}
-use Rattle.dbpl_codec.specs.KeySpelling.{component_bytes, key_type}
+use Rattle.dbpl_codec.specs.KeySpelling.{component_bytes}
 use Rattle.dbpl_codec.proofs.keys.append_key.Goals as goal
 
 pub loop-i-preserved : goal.loop-i-preserved
@@ -16,7 +16,7 @@ loop-i-preserved c =
     pairs-more (λ pair. component_bytes (key_type c.args.t.now pair.0) pair.1) (keys_of c.args.t.now) c.args.key.now
     c.loop-i.i c.index-keys-i.result c.index-key-i.result c.args.out.now.items c.loop-i.out.items _ keys_in key_in named
     c.index-key-i.is c.loop-i.invariant
-    (rw (← c.element_of.ensures, ← c.fields_of-fields.ensures, ← c.type_named.ensures) c.in_ok-component.ensures.ok)
+    (rw (← c.key_type.ensures) c.in_ok-component.ensures.ok)
 
 pub returns-clause-ok : goal.returns-clause-ok
 returns-clause-ok c =

@@ -1,7 +1,7 @@
 use Rattle.std.proofs.Common.{◌≡◌, ◌++◌, take}
 use Rattle.std.specs.List.{flat_map, zip}
-use Rattle.dbpl_value.specs.Types.{keys_of}
-use Rattle.dbpl_codec.specs.KeySpelling.{component_bytes, key_type}
+use Rattle.dbpl_value.specs.Types.{key_type, keys_of}
+use Rattle.dbpl_codec.specs.KeySpelling.{component_bytes}
 use Rattle.dbpl_codec.proofs.keys.append_key.Given as goal
 
 abbrev pub invariant-loop-i : goal.invariant-loop-i

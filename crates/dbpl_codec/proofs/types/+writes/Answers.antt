@@ -2,7 +2,7 @@ use Rattle.std.proofs.Common.{◌≡◌, ◌++◌, ◌∷◌, ◌^◌, [], lengt
 use Rattle.std.proofs.lemmas.Bool.{lt-ltb}
 use Rattle.std.specs.Cmp.Derive.{both_true}
 use Rattle.dbpl_codec.proofs.Growing.{begins-behind, begins-then, on_ok}
-use Rattle.dbpl_codec.proofs.TypeKinds.{type_fits-Arr, type_fits-Bool, type_fits-Card, type_fits-Char, type_fits-Enum, type_fits-Int, type_fits-Rec, type_fits-Rel, type_fits-Sub}
+use Rattle.dbpl_codec.proofs.TypeFits.{type_fits-Arr, type_fits-Bool, type_fits-Card, type_fits-Char, type_fits-Enum, type_fits-Int, type_fits-Rec, type_fits-Rel, type_fits-Sub}
 use Rattle.dbpl_codec.proofs.TypeReadLaws.{long-in}
 use Rattle.std.proofs.lemmas.Int.{to_z-of_z}
 use mir.Syntax.{w64}

@@ -1,5 +1,3 @@
-use Rattle.std.proofs.Common.{ap, ◌∙◌}
-use Rattle.std.specs.Prelude.{insert}
 use Rattle.dbpl_database.proofs.Bindings.{added}
 use Rattle.dbpl_database.proofs.binding.add_empty.Goals as goal
 

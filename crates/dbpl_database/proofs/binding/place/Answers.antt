@@ -1,7 +1,6 @@
-use Rattle.std.proofs.Common.{◌≡◌, ◌≤◌, length, sym, subst, ◌∙◌}
 use Rattle.std.specs.Ordering.{is_lt}
 use Rattle.dbpl_database.proofs.Bindings.{first_or_end, first_or_end-within}
-use Rattle.dbpl_database.specs.Databases.{name_cmp}
+use Rattle.dbpl_value.specs.Databases.{name_cmp}
 use Rattle.dbpl_database.proofs.binding.place.Goals as goal
 
 pub returns-clause-place : goal.returns-clause-place

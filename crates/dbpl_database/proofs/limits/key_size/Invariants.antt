@@ -1,8 +1,7 @@
 use Rattle.std.proofs.Common.{◌≡◌, ◌-◌, ◌^◌, min, take}
 use Rattle.std.specs.Prelude.{sum_by}
-use Rattle.dbpl_codec.specs.KeySpelling.{key_type}
-use Rattle.dbpl_database.specs.Databases.{key_width}
-use Rattle.dbpl_value.specs.Types.{keys_of}
+use Rattle.dbpl_value.specs.Databases.{key_width}
+use Rattle.dbpl_value.specs.Types.{key_type, keys_of}
 use Rattle.dbpl_database.proofs.limits.key_size.Given as goal
 
 abbrev pub invariant-loop-name : goal.invariant-loop-name

@@ -1,5 +1,5 @@
-use Rattle.std.proofs.Common.{◌≡◌, sym, ◌∙◌, arith, rules}
-use Rattle.dbpl_database.proofs.Rising.{names_rise-from, rises-more, rises-not}
+use Rattle.std.proofs.Common.{sym, ◌∙◌, arith, rules}
+use Rattle.dbpl_value.proofs.RisingNames.{names_rise-from, rises-more, rises-not}
 use Rattle.dbpl_database.proofs.names.rise.Goals as goal
 
 pub returns-then-not-is_less : goal.returns-then-not-is_less

@@ -1,6 +1,6 @@
 use Rattle.std.proofs.Common.{◌≡◌, ◌<◌, ℕ, get_or}
 use Rattle.std.specs.declared.cmp.Ordering.TheVariants.{Less}
-use Rattle.dbpl_database.specs.Databases.{name_cmp}
+use Rattle.dbpl_value.specs.Databases.{name_cmp}
 use Rattle.dbpl_value.specs.declared.bound.Bound.{Bound}
 use Rattle.dbpl_database.proofs.names.rise.Given as goal
 

@@ -1,4 +1,4 @@
-use Rattle.std.proofs.Common.{◌≡◌, ◌∙◌, refl, sym}
+use Rattle.std.proofs.Common.{◌∙◌, refl, sym}
 use Rattle.dbpl_database.proofs.Given.{bound_given}
 use Rattle.dbpl_database.proofs.reading.kept.Goals as goal
 

@@ -1,4 +1,4 @@
-use Rattle.dbpl_database.proofs.Holding.{back_again, put_over}
+use Rattle.dbpl_value.proofs.Holding.{back_again, put_over}
 use Rattle.dbpl_database.proofs.relations.put_relation.Goals as goal
 
 pub returns-clause-put : goal.returns-clause-put

@@ -13,7 +13,7 @@ returns-then-equal c =
     let here = rw c.deref.ensures.value at place in
     let same =
     is_same-at records c.in-Ok.place c.index.result.now c.args.other.now here.0 c.index.ensures
-    (c.equal.ensures.0 c.if-equal.true)
+    (c.equal.ensures.equal.0 c.if-equal.true)
     in
     c.remove.ensures.items
     ∙ sym (removed-one t records c.args.other.now c.in-Ok.place c.requires.rising here.0 here.1 same)
@@ -26,7 +26,7 @@ returns-else-equal c =
     let here = rw c.deref.ensures.value at place in
     let unlike =
     unlike-at records c.in-Ok.place c.index.result.now c.args.other.now here.0 c.index.ensures
-    (λ e. true≢false (sym (c.equal.ensures.1 e) ∙ c.if-equal.false))
+    (λ e. true≢false (sym (c.equal.ensures.equal.1 e) ∙ c.if-equal.false))
     in
     sym (removed-different t records c.args.other.now c.in-Ok.place c.requires.rising here.0 here.1 unlike)
 

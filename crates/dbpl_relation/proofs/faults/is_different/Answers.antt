@@ -1,18 +1,16 @@
 use Rattle.std.proofs.Common.{not, ap, sym, ◌∙◌}
 use Rattle.dbpl_value.specs.Keys.{key_of}
 use Rattle.dbpl_value.specs.declared.value.Value.{Value}
-use Rattle.dbpl_relation.proofs.EditLemmas.{equal-is_same}
 use Rattle.dbpl_relation.proofs.Lacking.{all_lack, any-none, any-one}
-use Rattle.dbpl_relation.specs.Equality.{is_same}
+use Rattle.dbpl_value.specs.Equality.{is_same}
 use Rattle.dbpl_relation.proofs.faults.is_different.Goals as goal
 
 pub returns-in-Ok : goal.returns-in-Ok
 returns-in-Ok c rises =
     let element = c.index-records-place.result in
     let place = c.in-Ok.ensures.place rises in
-    let answer = equal-is_same element c.args.other.now c.equal.result c.equal.ensures in
     let differs : Value → _ = λ (v : Value). not (is_same v c.args.other.now) in
-    ap not answer ∙ ap differs c.index-records-place.is
+    ap not c.equal.ensures.computed ∙ ap differs c.index-records-place.is
     ∙ sym (
     any-one c.args.t.now (key_of c.args.t.now c.args.other.now) differs c.args.records.now c.in-Ok.place element rises
     place.0 place.1

@@ -1,6 +1,0 @@
-use Rattle.std.proofs.Common.{◌≡◌, drop}
-use Rattle.dbpl_codec.specs.KeySpelling.{type_named}
-use Rattle.dbpl_codec.proofs.keys.type_named.Given as goal
-
-abbrev pub invariant-loop-field : goal.invariant-loop-field
-invariant-loop-field l = type_named l.t (drop l.field-index l.fields) l.name ≡ type_named l.t l.fields l.name
