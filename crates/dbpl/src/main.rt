@@ -4,6 +4,7 @@
 
 ghost use Rattle.std.specs.Prelude.{◌≡◌, ◌<◌};
 
+mod streams;
 mod words;
 
 use dbpl_base::{Name, Status, Steps};
@@ -14,13 +15,22 @@ use std::alloc::Global;
 use std::marker::Brand;
 use std::process::ExitCode;
 use std::sync::ledger::{Blank, Ledger};
+use streams::keep_streams_open;
 use words::command_words;
 
 fn main(rt: HostRuntime) -> ExitCode {
+    match keep_streams_open(&rt) {
+        Ok(_stand_ins) => ExitCode::from(answered(rt).code()),
+        Err(_) => ExitCode::from(Status::OutFault.code()),
+    }
+}
+
+/// The status of the command. All standard streams are open.
+fn answered(rt: HostRuntime) -> Status {
     let alloc = rt.alloc();
     let mut shelf = FileShelf::new(rt);
     let mut world = RealWorld::new(rt, rt.stdin(), rt.stdout(), rt.stderr());
-    let status = match command_words(alloc, &rt) {
+    match command_words(alloc, &rt) {
         Ok(words) => run::<Brand, _, _>(
             alloc,
             words.as_slice(),
@@ -32,8 +42,7 @@ fn main(rt: HostRuntime) -> ExitCode {
             let _ = note_report(&Status::Memory, &mut world);
             Status::Memory
         }
-    };
-    ExitCode::from(status.code())
+    }
 }
 
 /// The top call, with a counter that nobody reads.

@@ -7,7 +7,7 @@ use Rattle.dbpl_alone.specs.Answers.{Caused, IsNotRead, IsTheModule, Silent}
 use Rattle.dbpl_alone.specs.Meaning.{printed_by}
 use Rattle.dbpl_base.specs.declared.status.Status.{Status}
 use Rattle.dbpl_base.specs.declared.status.Status.TheVariants.{Absent, Done, Memory, OutFault, Refused, SourceFault, TooLong}
-use Rattle.dbpl_front.specs.declared.program.Program.{Program}
+use Rattle.dbpl_alone.specs.declared.program.Program.{Program}
 use Rattle.dbpl_sources.specs.Sources.{IsUnread}
 use Rattle.dbpl_sources.specs.Texts.{MayHave}
 use Rattle.dbpl_sources.specs.Work.{Work}

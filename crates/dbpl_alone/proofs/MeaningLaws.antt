@@ -4,13 +4,13 @@ use Rattle.std.proofs.Common.{◌≡◌, ◌∙◌, ℕ, ◌+◌, suc, List, [],
 use Rattle.std.proofs.lemmas.List.{append-nil, map-append, take-map}
 use Rattle.std.specs.List.{flat_map}
 use Rattle.dbpl_alone.specs.Headline.{PrintsAll, PrintsPrefix}
-use Rattle.dbpl_alone.specs.Meaning.{body_meaning, meaning, printed_by, statement_meaning}
+use Rattle.dbpl_alone.specs.Meaning.{module_doing, module_meaning, printed_by, statement_meaning}
 use Rattle.dbpl_core.proofs.Events.{prints-outs}
-use Rattle.dbpl_core.proofs.Steady.{GoesOn, IsSteady, outcomes, steady_block, steady_makes, steady_turn}
+use Rattle.dbpl_stored_program.proofs.Steady.{GoesOn, IsSteady, outcomes, steady_block, steady_makes, steady_turn}
 use Rattle.dbpl_core.specs.Events.{Event, Out, prints}
-use Rattle.dbpl_core.specs.Meaning.{◌>>=◌, Done, Ended, Outcome, State, block, gives, makes, outcome_of, turn}
-use Rattle.dbpl_front.specs.declared.program.Program.{Program}
-use Rattle.dbpl_front.specs.declared.statement.Statement.{Statement}
+use Rattle.dbpl_stored_program.specs.Meaning.{◌>>=◌, Done, Ended, Outcome, State, block, gives, makes, outcome_of, turn}
+use Rattle.dbpl_alone.specs.declared.program.Program.{Program}
+use Rattle.dbpl_alone.specs.declared.statement.Statement.{Statement}
 
 -- the events of these bytes
 abbrev outs : List ℕ → List Event
@@ -39,9 +39,9 @@ block_goes (statement ∷ statements) others events =
 
 -- within the turns that it uses up, the module ends and has made the events of all that it prints
 whole : (program : Program) →
-    meaning program (suc (turns_for program.statements 0))
+    module_meaning program (suc (turns_for program.statements 0))
     ≡ record { events = outs (printed program.statements); stands = Ended }
-unfolding meaning turn
+unfolding module_meaning turn
 whole program = ap outcome_of (block_goes program.statements 0 [])
 
 pub prints_all : (program : Program) → PrintsAll program (printed program.statements)
@@ -68,12 +68,12 @@ prints_prefix program count =
 steady_statement : (statement : Statement) → IsSteady (statement_meaning statement)
 steady_statement statement = steady_turn _ (steady_makes _)
 
-steady_body : (program : Program) → IsSteady (body_meaning program)
+steady_body : (program : Program) → IsSteady (module_doing program)
 steady_body program = steady_turn _ (steady_block statement_meaning program.statements steady_statement)
 
-pub steady : (program : Program) (turns others further : ℕ) → further ≡ turns + others → GoesOn (meaning program turns) (meaning program further)
-unfolding meaning
-steady program turns others further e =
+pub module_steady : (program : Program) (turns others further : ℕ) → further ≡ turns + others → GoesOn (module_meaning program turns) (module_meaning program further)
+unfolding module_meaning
+module_steady program turns others further e =
     let start : State = record { left = turns; database = []; input = []; events = [] } in
-    outcomes others (body_meaning program start) (body_meaning program (record start { left = further }))
+    outcomes others (module_doing program start) (module_doing program (record start { left = further }))
     ((steady_body program).on others further start e)

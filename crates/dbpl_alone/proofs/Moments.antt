@@ -3,9 +3,9 @@ use Rattle.std.proofs.Common.{◌≡◌, ◌∙◌, ℕ, List, zero, suc, [], �
 use Rattle.std.proofs.Math.Seq.{take-length}
 use Rattle.std.proofs.lemmas.List.{append-nil}
 use Rattle.dbpl_alone.specs.Headline.{PrintsAll, PrintsPrefix, SaidSince}
-use Rattle.dbpl_alone.specs.Meaning.{meaning}
+use Rattle.dbpl_alone.specs.Meaning.{module_meaning}
 use Rattle.dbpl_core.specs.Events.{Commit, Event, Out, prints}
-use Rattle.dbpl_front.specs.declared.program.Program.{Program}
+use Rattle.dbpl_alone.specs.declared.program.Program.{Program}
 use Rattle.dbpl_world.proofs.Replays.{now-more, replay-append, replay-noted, replay-said}
 use Rattle.dbpl_world.specs.History.{History, Noted, Said, State, more, now, replay, step}
 use Rattle.dbpl_world.specs.Moments.{Always, EachMoment}
@@ -64,7 +64,7 @@ some_take (suc n) (suc m) (x ∷ xs) = let fewer = some_take n m xs in (suc fewe
 -- a front of what a prefix of the events prints is what a prefix of the events prints
 pub prefix_fronts : (program : Program) → KeepsFronts (PrintsPrefix program)
 prefix_fronts program front back prefix =
-    let events : List Event = (meaning program prefix.turns).events in
+    let events : List Event = (module_meaning program prefix.turns).events in
     let some = events_for front back (take prefix.count events) prefix.is in
     let fewer = some_take some.0 prefix.count events in
     record { turns = prefix.turns; count = fewer.0; is = some.1 ∙ ap prints fewer.1 }
@@ -72,7 +72,7 @@ prefix_fronts program front back prefix =
 -- what all events print is what a prefix of them prints, and so is nothing
 pub all_prefix : (program : Program) (said : List ℕ) → PrintsAll program said → PrintsPrefix program said
 all_prefix program said all =
-    let events : List Event = (meaning program all.turns).events in
+    let events : List Event = (module_meaning program all.turns).events in
     record { turns = all.turns; count = length events; is = all.is ∙ ap prints (sym (take-length events)) }
 
 pub nothing_prefix : (program : Program) (said : List ℕ) → said ≡ [] → PrintsPrefix program said

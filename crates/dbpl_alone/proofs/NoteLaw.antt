@@ -6,7 +6,7 @@ use Rattle.dbpl_alone.specs.Answers.{Caused, Says}
 use Rattle.dbpl_alone.specs.RunsAlone.{RunsAlone}
 use Rattle.dbpl_base.specs.declared.status.Status.{Status}
 use Rattle.dbpl_base.specs.declared.status.Status.TheVariants.{Absent, Done, Memory, OutFault, Refused, SourceFault, TooLong}
-use Rattle.dbpl_sources.proofs.Noting.{IsNotedBehind, reported, say_rose}
+use Rattle.dbpl_sources.proofs.Noting.{IsNotedBehind, reported, said_on, say_rose}
 use Rattle.dbpl_sources.specs.Work.{Work}
 use Rattle.dbpl_world.proofs.Replays.{more-more}
 use Rattle.dbpl_world.specs.History.{Event, History, Noted, Said, more}
@@ -40,4 +40,5 @@ module _ (file : List ℕ) (work : Work) (after : History) (counts : Counts) (no
   caused_on _ cause = absurd cause
 
   pub alone_noted : (status : Status) → RunsAlone file work status → RunsAlone file (reported work after counts) status
-  alone_noted status run = rows file (reported work after counts) status (caused_on status run.caused)
+  alone_noted status run =
+      rows file (reported work after counts) status (caused_on status run.caused) (said_on work after counts noted run.out_fault_where)

@@ -9,9 +9,10 @@ use Rattle.dbpl_base.specs.declared.limits.TheConstants.{SOURCE_BYTES}
 use Rattle.dbpl_base.specs.declared.place.Place.{Place}
 use Rattle.dbpl_base.specs.declared.status.Status.{Status}
 use Rattle.dbpl_base.specs.declared.status.Status.TheVariants.{Absent, Done, Memory, OutFault, Refused, SourceFault, TooLong}
-use Rattle.dbpl_front.proofs.TextLaw.{module_or_refusal, no_tokens_module, no_tokens_refusal, no_unit_module, no_unit_refusal, unbuilt_module, unbuilt_refusal}
-use Rattle.dbpl_front.specs.Texts.{IsModule, IsNoModule, IsRefused, IsRefusedByGrammar, IsUnscanned}
-use Rattle.dbpl_front.specs.declared.program.Program.{Program}
+use Rattle.dbpl_alone.proofs.ModuleLaw.{module_or_refusal, no_tokens_module, no_tokens_refusal, no_unit_module, no_unit_refusal, unbuilt_module, unbuilt_refusal}
+use Rattle.dbpl_alone.specs.Modules.{IsModule, IsNoModule, IsRefused}
+use Rattle.dbpl_front.specs.Texts.{IsRefusedByGrammar, IsUnscanned}
+use Rattle.dbpl_alone.specs.declared.program.Program.{Program}
 use Rattle.dbpl_sources.specs.Sources.{IsAbsent, IsTooLong}
 use Rattle.dbpl_sources.specs.Texts.{HasLongText, HasText, IsMissing, IsUnlessUnread, MayHave}
 use Rattle.dbpl_sources.specs.Work.{Work}
@@ -220,8 +221,9 @@ module _ (file : List ℕ) (work : Work) where
 
   -- ---- the whole contract
 
-  pub rows : (status : Status) → Caused file work status → RunsAlone file work status
-  rows status cause = record {
+  pub rows : (status : Status) → Caused file work status → (status ≡ OutFault) ⊎ (work.counts_after.say_faults ≡ work.counts_before.say_faults) →
+      RunsAlone file work status
+  rows status cause said = record {
     caused = cause;
     headline = λ tells text program told spelt.
         let says = says_prefix status text program cause told spelt tells in
@@ -249,6 +251,7 @@ module _ (file : List ℕ) (work : Work) where
     refused_only = λ place rule is. refused_only status place rule cause is;
     source_fault = λ is. source_fault status cause is;
     out_fault = λ is. out_fault status cause is;
+    out_fault_where = said;
     silent = λ tells quiet.
         let says = silent status cause quiet tells in
         each_front _ none_fronts work.before work.after says.0 says.1 says.2 says.3;

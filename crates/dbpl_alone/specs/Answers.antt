@@ -4,8 +4,8 @@ use Rattle.dbpl_alone.specs.Headline.{PrintsAll, PrintsPrefix}
 use Rattle.dbpl_base.specs.declared.place.Place.{Place}
 use Rattle.dbpl_base.specs.declared.status.Status.{Status}
 use Rattle.dbpl_base.specs.declared.status.Status.TheVariants as status
-use Rattle.dbpl_front.specs.Texts.{IsModule, IsRefused}
-use Rattle.dbpl_front.specs.declared.program.Program.{Program}
+use Rattle.dbpl_alone.specs.Modules.{IsModule, IsRefused}
+use Rattle.dbpl_alone.specs.declared.program.Program.{Program}
 use Rattle.dbpl_sources.specs.Sources.{IsAbsent, IsTooLong}
 use Rattle.dbpl_sources.specs.Texts.{MayHave}
 use Rattle.dbpl_sources.specs.Work.{Work}

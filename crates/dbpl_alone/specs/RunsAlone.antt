@@ -6,8 +6,9 @@ use Rattle.dbpl_base.specs.Places.{start_of}
 use Rattle.dbpl_base.specs.declared.place.Place.{Place}
 use Rattle.dbpl_base.specs.declared.status.Status.{Status}
 use Rattle.dbpl_base.specs.declared.status.Status.TheVariants as status
-use Rattle.dbpl_front.specs.Texts.{HasNoTokens, HasNoUnit, IsModule, IsNoModule, IsRefused, IsRefusedByGrammar, IsUnbuilt, IsUnscanned}
-use Rattle.dbpl_front.specs.declared.program.Program.{Program}
+use Rattle.dbpl_alone.specs.Modules.{IsModule, IsNoModule, IsRefused, IsUnbuilt}
+use Rattle.dbpl_front.specs.Texts.{HasNoTokens, HasNoUnit, IsRefusedByGrammar, IsUnscanned}
+use Rattle.dbpl_alone.specs.declared.program.Program.{Program}
 use Rattle.dbpl_sources.specs.Sources.{IsAbsent, IsTooLong}
 use Rattle.dbpl_sources.specs.Texts.{HasLongText, HasText, IsMissing, IsUnlessUnread}
 use Rattle.dbpl_sources.specs.Work.{Work}
@@ -43,9 +44,10 @@ pub record RunsAlone (file : List ℕ) (work : Work) (answer : Status) : Type 0 
   pub refused_form : (text : List ℕ) → HasText work.files file text → IsUnbuilt text → IsUnlessUnread answer (status.Refused (start_of 0) 109)
   pub refused_only : (place : Place) (rule : ℕ) → answer ≡ status.Refused place rule →
       IfSome work.files (λ files. (text : List ℕ) × (file_of files file ≡ Some text) × IsRefused text place rule)
-  -- Faults come with their counts.
+  -- Faults come with their counts, and a print that failed is always the answer.
   pub source_fault : answer ≡ status.SourceFault → Rose work.shelf_faults_before work.shelf_faults_after
   pub out_fault : answer ≡ status.OutFault → Rose work.counts_before.say_faults work.counts_after.say_faults
+  pub out_fault_where : (answer ≡ status.OutFault) ⊎ (work.counts_after.say_faults ≡ work.counts_before.say_faults)
   -- Nothing happened but that bytes were said, by some answers none, and then some were noted.
   pub silent : IsTrue work.tells → IsSilent answer → EachMoment (SaidSince (now work.before).said (λ said. said ≡ [])) work.before work.after
   pub events : IsTrue work.tells → (said noted : List ℕ) × (work.after ≡ more work.before (map Said said ++ map Noted noted))

@@ -2,8 +2,11 @@
 ghost use Rattle.std.specs.Prelude.{◌≤◌, length, IfErr, IfOk};
 ghost use Rattle.dbpl_alone.specs.Answers.{IsNotRead, IsTheModule};
 
-use dbpl_base::{SOURCE_BYTES, Status};
-use dbpl_front::{FrontErr, Program, read};
+use crate::Program;
+use crate::modules::read;
+use dbpl_base::Status;
+use dbpl_base::limits::SOURCE_BYTES;
+use dbpl_front::FrontErr;
 use std::alloc::Global;
 
 /// The module that the text spells.

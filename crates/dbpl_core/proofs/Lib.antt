@@ -1,10 +1,4 @@
-pub mod Adding
-pub mod Databases
 pub mod Events
-pub mod Kept
-pub mod Programs
-pub mod Rows
-pub mod Sizes
-pub mod Steady
-pub mod Statements
-pub mod Turns
+pub mod Examples
+pub mod Levels
+pub mod Stores

@@ -1,6 +1,3 @@
 pub mod Events
-pub mod Insertions
-pub mod Meaning
-pub mod Programs
-pub mod Sets
-pub mod Whole
+pub mod Phrases
+pub mod Stores

@@ -1,55 +1,31 @@
-// Laws of events, of the meaning and of databases, each the contract of a function that does nothing.
-ghost use Rattle.std.specs.Prelude.{◌≡◌, ◌≤◌, ◌+◌, ◌∷◌, ◌++◌, ℕ, List, length, slice_get, Some, IsTrue};
-ghost use Rattle.std.specs.List.{list_any};
+// Laws of the tree, of stores and of events, each the contract of a function that does nothing.
+ghost use Rattle.std.specs.Prelude.{◌≡◌, ◌++◌, ℕ, List};
 ghost use Rattle.dbpl_core.specs.Events.{Event, last, prints};
-ghost use Rattle.dbpl_core.specs.Meaning.{Going, meaning, with_named};
-ghost use Rattle.dbpl_core.specs.Programs.{flat_type, is_flat};
-ghost use Rattle.dbpl_core.specs.Whole.{comes_to, events_of, turns_of, whole};
-ghost use Rattle.dbpl_core.specs.declared.stored_program.StoredProgram.{StoredProgram};
-ghost use Rattle.dbpl_database.specs.Binding.{Binds, bound_named, with_relation};
-ghost use Rattle.dbpl_database.specs.Databases.{is_kept, names_rise};
-ghost use Rattle.dbpl_value.specs.Types.{are_names, is_identifier, is_same_name};
+ghost use Rattle.dbpl_core.specs.Phrases.{expr_phrases, phrases_in, phrases_of, stmt_phrases};
+ghost use Rattle.dbpl_core.specs.Stores.{Store, closes, opens, says};
+ghost use Rattle.dbpl_core.specs.declared.cell.Cell.{Cell as AnyCell};
+ghost use Rattle.dbpl_core.specs.declared.expr.CoreExpr.{CoreExpr as Expr, CoreExpr-F, out-CoreExpr, roll-CoreExpr};
+ghost use Rattle.dbpl_core.specs.declared.stmt.CoreStmtOf.{CoreStmtOf as StmtOf, CoreStmtOf-F, out-CoreStmtOf, roll-CoreStmtOf};
 ghost use Rattle.dbpl_value.specs.declared.bound.Bound.{Bound};
-ghost use Rattle.dbpl_value.specs.declared.field.Field.{Field};
-ghost use Rattle.dbpl_value.specs.declared.value.Value.{Value};
+
+/// The phrases of an expression are its own and those of the expressions in it, whether it is taken apart or made; and so
+/// are those of a statement.
+pub fn phrases_by_levels()
+    ensures expression { (e : Expr) → phrases_of e ≡ expr_phrases phrases_of (out-CoreExpr e) }
+    ensures expression_made { (level : CoreExpr-F Expr) → phrases_of (roll-CoreExpr level) ≡ expr_phrases phrases_of level }
+    ensures statement { (s : StmtOf Expr) → phrases_in s ≡ stmt_phrases phrases_in (out-CoreStmtOf Expr s) }
+    ensures statement_made { (level : CoreStmtOf-F Expr (StmtOf Expr)) → phrases_in (roll-CoreStmtOf Expr level) ≡ stmt_phrases phrases_in level }
+{}
+
+/// What effects on a store do, they do one behind the other.
+pub fn effects_of_stores()
+    ensures says { (first second : List ℕ) (store : Store) → says (first ++ second) store ≡ says second (says first store) }
+    ensures printed { (bytes : List ℕ) (store : Store) → prints (says bytes store).events ≡ prints store.events ++ bytes }
+    ensures ended { (frame : List AnyCell) (store : Store) → closes (opens frame store) ≡ store }
+{}
 
 /// What events do, they do one list behind the other.
 pub fn events_join()
     ensures prints { (events others : List Event) → prints (events ++ others) ≡ prints events ++ prints others }
     ensures last { (events others : List Event) (database : List Bound) → last (events ++ others) database ≡ last others (last events database) }
-{}
-
-/// More turns only add events, and a program that has ended or trapped stays as it is.
-pub fn meaning_is_steady()
-    ensures extends { (program : StoredProgram) (database : List Bound) (input : List ℕ) (turns others : ℕ) → (rest : List Event) × ((meaning program database input (turns + others)).events ≡ (meaning program database input turns).events ++ rest) }
-    ensures stays { (program : StoredProgram) (database : List Bound) (input : List ℕ) (turns others : ℕ) → ((meaning program database input turns).stands ≡ Going → ⊥) → meaning program database input (turns + others) ≡ meaning program database input turns }
-{}
-
-/// A program comes to its end: within a number of turns that its text tells it has made its whole list of events.
-pub fn meaning_is_whole()
-    ensures ends { (program : StoredProgram) (database : List Bound) (input : List ℕ) → (whole program database input).stands ≡ Going → ⊥ }
-    ensures enough { (program : StoredProgram) (database : List Bound) (input : List ℕ) (others : ℕ) → meaning program database input (turns_of program + others) ≡ whole program database input }
-    ensures front { (program : StoredProgram) (database : List Bound) (input : List ℕ) (turns : ℕ) → (rest : List Event) × (events_of program database input ≡ (meaning program database input turns).events ++ rest) }
-{}
-
-/// What a program does, statement by statement, over a database to which its variable is bound. The input is any, since no
-/// statement reads.
-pub fn meaning_by_statements()
-    ensures { (program : StoredProgram) (before database : List Bound) (input : List ℕ) → Binds program.relation before database → whole program database input ≡ comes_to program program.body database }
-{}
-
-/// A variable found by its name is the one at its place: it has the name alone, since names rise.
-pub fn variable_has_one_place()
-    ensures found { (database : List Bound) (at : ℕ) (bound : Bound) → IsTrue (names_rise database) → slice_get database at ≡ Some bound → bound_named bound.name database ≡ Some bound }
-    ensures put { (database : List Bound) (at : ℕ) (bound : Bound) (relation : Value) → IsTrue (names_rise database) → slice_get database at ≡ Some bound → with_relation relation at database ≡ with_named bound.name relation database }
-    ensures there { (field : Field) (before database : List Bound) → Binds field before database → (bound : Bound) × (bound_named field.name database ≡ Some bound) × (bound.kind ≡ field.kind) }
-{}
-
-/// A relation with one key over a record of CARDINAL fields can be kept, where the rules on names and sizes are kept.
-pub fn flat_type_is_kept()
-    ensures kept { (owner variable key : List ℕ) (names : List (List ℕ)) →
-        IsTrue (is_identifier owner) → IsTrue (is_identifier variable) → length owner + 1 + length variable ≤ 128 →
-        IsTrue (are_names names) → length names ≤ 65536 → IsTrue (list_any (is_same_name key) names) →
-        IsTrue (is_kept (owner ++ 46 ∷ variable) (flat_type key names)) }
-    ensures flat { (key : List ℕ) (names : List (List ℕ)) → IsTrue (is_flat (flat_type key names)) }
 {}

@@ -1,5 +1,5 @@
 -- A report that is noted behind the work.
-use Rattle.std.proofs.Common.{◌≡◌, ◌∙◌, ℕ, List, [], ◌++◌, IsTrue, ap, append-nil, map, subst, sym}
+use Rattle.std.proofs.Common.{◌≡◌, ◌∙◌, ◌⊎◌, ℕ, List, [], ◌++◌, IsTrue, ap, append-nil, inl, inr, map, subst, sym}
 use Rattle.std.proofs.lemmas.List.{map-append}
 use Rattle.dbpl_sources.specs.Work.{OnlyNotes, Work}
 use Rattle.dbpl_world.proofs.Replays.{more-more}
@@ -33,6 +33,11 @@ module _ (work : Work) (after : History) (counts : Counts) (noted : IsNotedBehin
 
   pub say_rose : Rose work.counts_before.say_faults work.counts_after.say_faults → Rose work.counts_before.say_faults counts.say_faults
   say_rose rose = subst (Rose work.counts_before.say_faults) (sym same_say) rose
+
+  -- where no print had failed, none has
+  pub said_on : {A : Type 0} → A ⊎ (work.counts_after.say_faults ≡ work.counts_before.say_faults) → A ⊎ (counts.say_faults ≡ work.counts_before.say_faults)
+  said_on (inl failed) = inl failed
+  said_on (inr fine) = inr (same_say ∙ fine)
 
   -- notes behind notes
   pub notes_on : OnlyNotes work → OnlyNotes (reported work after counts)

@@ -3,7 +3,8 @@ ghost use Rattle.std.specs.Prelude.{◌≡◌, ◌≤◌, length, Some, IfErr, I
 ghost use Rattle.dbpl_sources.specs.Sources.{IsUnread};
 ghost use Rattle.dbpl_world.specs.Files.{file_of};
 
-use dbpl_base::{SOURCE_BYTES, Status, name_of};
+use dbpl_base::limits::SOURCE_BYTES;
+use dbpl_base::{Status, name_of};
 use dbpl_world::{Shelf, ShelfErr};
 use std::alloc::Global;
 

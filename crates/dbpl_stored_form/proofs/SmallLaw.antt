@@ -7,10 +7,10 @@ use Rattle.std.proofs.lemmas.Bool.Decides.{nat_tests}
 use Rattle.std.specs.List.{list_all, list_any}
 use Rattle.std.specs.Prelude.{IsTrue, nat_eq, nat_le}
 use Rattle.dbpl_base.specs.declared.place.Place.{Place}
-use Rattle.dbpl_core.specs.Programs.{are_rows, cardinal_field, flat_type, is_flat, is_in_cardinal, is_row, is_small_program}
-use Rattle.dbpl_core.specs.declared.insertion.Insertion.{Insertion}
-use Rattle.dbpl_core.specs.declared.stored_program.StoredProgram.{StoredProgram}
-use Rattle.dbpl_database.specs.Databases.{is_kept}
+use Rattle.dbpl_stored_program.specs.Programs.{are_rows, cardinal_field, flat_type, is_flat, is_in_cardinal, is_row, is_small_program}
+use Rattle.dbpl_stored_program.specs.declared.insertion.Insertion.{Insertion}
+use Rattle.dbpl_stored_program.specs.declared.stored_program.StoredProgram.{StoredProgram}
+use Rattle.dbpl_value.specs.Databases.{is_kept}
 use Rattle.dbpl_stored_form.proofs.Found.{all_pass, made_of, one_is, one_passes, passed, then_of, under}
 use Rattle.dbpl_stored_form.specs.DataModules.{are_fields, are_names_different, can_be_kept, declared_in, has_frame, is_sound, is_variable_name, joined_name, schema_of}
 use Rattle.dbpl_stored_form.specs.Lists.{all_of, one_of, passing}

@@ -2,8 +2,8 @@
 use Rattle.std.proofs.Common.{◌≡◌, ◌∙◌, ◌≢◌, ℕ, List, None, Some, Result, Ok, Err, ap₂, inl, inr, refl, sym}
 use Rattle.std.specs.Prelude.{IfErr, IfOk, IsTrue}
 use Rattle.dbpl_base.specs.declared.place.Place.{Place}
-use Rattle.dbpl_core.specs.Programs.{is_small_program}
-use Rattle.dbpl_core.specs.declared.stored_program.StoredProgram.{StoredProgram}
+use Rattle.dbpl_stored_program.specs.Programs.{is_small_program}
+use Rattle.dbpl_stored_program.specs.declared.stored_program.StoredProgram.{StoredProgram}
 use Rattle.dbpl_front.proofs.TextLaw.{one_misspelling, one_tree, unit_or_misspelt}
 use Rattle.dbpl_front.specs.Texts.{IsUnspelt, SpellsUnit}
 use Rattle.dbpl_front.specs.declared.front_err.FrontErr.{FrontErr}

@@ -2,11 +2,13 @@
 --
 --     DATABASE MODULE D; TYPE R = RECORD a, b: CARDINAL END; S = RELATION a OF R; VAR v: S; END D.
 use Rattle.std.specs.Prelude.{ℕ, ◌+◌, Bool, not, ◌&&◌, bytes_eq, codes, length, nat_le, if◌then◌else◌, List, [], ◌∷◌, ◌++◌, Option, Some, None, option_and_then, option_map}
-use Rattle.dbpl_core.specs.Programs.{flat_type}
 use Rattle.std.specs.List.{list_any}
-use Rattle.dbpl_stored_form.specs.Lists.{all_of, is_empty, passing}
-use Rattle.dbpl_stored_form.specs.Names.{has_name, is_plain, is_type_name, names_of}
+use Rattle.dbpl_base.specs.declared.limits.TheConstants.{RELATION_NAME_BYTES, SCALARS}
+use Rattle.dbpl_stored_form.specs.Lists.{all_of, passing}
+use Rattle.dbpl_stored_form.specs.Names.{is_plain, is_type_name, names_of}
 use Rattle.dbpl_stored_form.specs.declared.schema.Schema.{Schema}
+use Rattle.dbpl_stored_program.specs.Programs.{flat_type}
+use Rattle.dbpl_tree.specs.Plain.{has_name, is_empty}
 use Rattle.dbpl_tree.specs.Words.{in_out}
 use Rattle.dbpl_tree.specs.declared.decl.Common.{Common}
 use Rattle.dbpl_tree.specs.declared.decl.Common.TheVariants as commons
@@ -93,11 +95,11 @@ variable_of schema = record { name = joined_name schema; kind = flat_type schema
 
 -- two identifiers, which are not too long
 abbrev pub is_variable_name : List ℕ → List ℕ → Bool
-is_variable_name unit variable = is_identifier unit && is_identifier variable && nat_le (length unit + 1 + length variable) 128
+is_variable_name unit variable = is_identifier unit && is_identifier variable && nat_le (length unit + 1 + length variable) RELATION_NAME_BYTES
 
 -- not too many fields, no two of one name, and the key is one of them
 abbrev pub are_fields : List ℕ → List (List ℕ) → Bool
-are_fields key names = list_any (is_same_name key) names && nat_le (length names) 65536 && are_names names
+are_fields key names = list_any (is_same_name key) names && nat_le (length names) SCALARS && are_names names
 
 -- the relation variable can be stored
 abbrev pub can_be_kept : Schema → Bool

@@ -3,8 +3,9 @@
 --     FROM D IMPORT R, S, v; FROM InOut IMPORT WriteString, WriteLn;
 use Rattle.std.specs.Prelude.{ℕ, Bool, false, ◌&&◌, ◌||◌, List, ◌∷◌}
 use Rattle.std.specs.List.{flat_map, list_all, list_any}
-use Rattle.dbpl_stored_form.specs.Names.{has_name, names_of}
+use Rattle.dbpl_stored_form.specs.Names.{names_of}
 use Rattle.dbpl_stored_form.specs.declared.schema.Schema.{Schema}
+use Rattle.dbpl_tree.specs.Plain.{has_name}
 use Rattle.dbpl_tree.specs.Words.{in_out, write_ln, write_string}
 use Rattle.dbpl_tree.specs.declared.ident.Ident.{Ident}
 use Rattle.dbpl_tree.specs.declared.unit.Import.{Import}

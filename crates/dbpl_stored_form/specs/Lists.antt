@@ -1,9 +1,5 @@
 -- What a list of phrases gives, where each of them must be of a form.
-use Rattle.std.specs.Prelude.{Bool, true, false, if◌then◌else◌, List, [], ◌∷◌, ◌++◌, Option, Some, None, option_map}
-
-abbrev pub is_empty : {A : Type 0} → List A → Bool
-is_empty [] = true
-is_empty (x ∷ xs) = false
+use Rattle.std.specs.Prelude.{Bool, if◌then◌else◌, List, [], ◌∷◌, ◌++◌, Option, Some, None, option_map}
 
 -- it, if it passes the test
 abbrev pub passing : {A : Type 0} → (A → Bool) → A → Option A

@@ -1,16 +1,10 @@
 -- Phrases that are one name.
-use Rattle.std.specs.Prelude.{ℕ, Bool, false, not, ◌&&◌, is_some, List, ◌∷◌, map, bytes_eq}
-use Rattle.dbpl_stored_form.specs.Lists.{is_empty}
-use Rattle.dbpl_tree.specs.declared.designator.DesignatorOf.{DesignatorOf}
-use Rattle.dbpl_tree.specs.declared.factor.Factor.{Factor}
-use Rattle.dbpl_tree.specs.declared.ident.Ident.{Ident}
+use Rattle.std.specs.Prelude.{ℕ, Bool, false, not, ◌&&◌, is_some, List, ◌∷◌, map}
+use Rattle.dbpl_tree.specs.Plain.{has_name}
 use Rattle.dbpl_tree.specs.declared.ident.Idents.{Idents}
 use Rattle.dbpl_tree.specs.declared.ident.Qual.{Qual}
 use Rattle.dbpl_tree.specs.declared.type_tree.TypeTree.{TypeTree, TypeTree-F, out-TypeTree}
 use Rattle.dbpl_tree.specs.declared.type_tree.TypeTree.TheOpen as types
-
-abbrev pub has_name : List ℕ → Ident → Bool
-has_name name ident = bytes_eq ident.name name
 
 abbrev pub names_of : Idents → List (List ℕ)
 names_of idents = map (λ ident. ident.name) (idents.first ∷ idents.others)
@@ -18,10 +12,6 @@ names_of idents = map (λ ident. ident.name) (idents.first ∷ idents.others)
 -- a name without that of a module before it
 abbrev pub is_plain : List ℕ → Qual → Bool
 is_plain name qual = has_name name qual.first && not (is_some qual.second)
-
--- the designator is this name and nothing else
-abbrev pub is_name : List ℕ → DesignatorOf Factor → Bool
-is_name name d = has_name name d.head && is_empty d.parts
 
 abbrev pub type_level : {T : Type 0} → List ℕ → TypeTree-F T → Bool
 type_level name (types.Named qual) = is_plain name qual

@@ -3,13 +3,13 @@
 --     MODULE M; imports TRANSACTION t; BEGIN v :+ S{R{1, 2}}; .. END t; BEGIN t; WriteLn; .. END M.
 use Rattle.std.specs.Prelude.{ℕ, Bool, true, false, not, ◌&&◌, is_some, bytes_eq, if◌then◌else◌, List, [], ◌∷◌, Option, Some, None, option_and_then, option_map}
 use Rattle.std.specs.List.{list_any}
-use Rattle.dbpl_core.specs.declared.stored_program.StoredProgram.{StoredProgram}
+use Rattle.dbpl_stored_program.specs.declared.stored_program.StoredProgram.{StoredProgram}
 use Rattle.dbpl_stored_form.specs.DataModules.{schema_of, variable_of}
 use Rattle.dbpl_stored_form.specs.Imports.{are_lines, imported_names}
-use Rattle.dbpl_stored_form.specs.Lists.{all_of, is_empty, passing}
-use Rattle.dbpl_stored_form.specs.Names.{has_name}
+use Rattle.dbpl_stored_form.specs.Lists.{all_of, passing}
 use Rattle.dbpl_stored_form.specs.Statements.{actions_in, insertions_in, statements_of}
 use Rattle.dbpl_stored_form.specs.declared.schema.Schema.{Schema}
+use Rattle.dbpl_tree.specs.Plain.{has_name, is_empty}
 use Rattle.dbpl_tree.specs.Words.{in_out}
 use Rattle.dbpl_tree.specs.declared.decl.Decl.{Decl}
 use Rattle.dbpl_tree.specs.declared.decl.Decl.TheVariants as decls

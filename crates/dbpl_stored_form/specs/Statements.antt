@@ -1,14 +1,15 @@
 -- Which statements are of the form, and which each is: v :+ S{R{1, 2}, ..} in the transaction, and t, WriteLn or
 -- WriteString("text") in the body. An empty statement is none.
-use Rattle.std.specs.Prelude.{ℕ, ℤ, pos, Bool, true, false, not, ◌&&◌, is_some, nat_eq, nat_le, if◌then◌else◌, List, [], ◌∷◌, length, Option, Some, None, option_and_then, option_map}
+use Rattle.std.specs.Prelude.{ℕ, ℤ, pos, Bool, true, false, ◌&&◌, nat_eq, nat_le, if◌then◌else◌, List, [], ◌∷◌, length, Option, Some, None, option_and_then, option_map}
 use Rattle.dbpl_base.specs.declared.place.Place.{Place}
-use Rattle.dbpl_core.specs.declared.action.Action.{Action}
-use Rattle.dbpl_core.specs.declared.action.Action.TheVariants.{Transact, WriteLn, WriteString}
-use Rattle.dbpl_core.specs.declared.insertion.Insertion.{Insertion}
+use Rattle.dbpl_stored_program.specs.declared.action.Action.{Action}
+use Rattle.dbpl_stored_program.specs.declared.action.Action.TheVariants.{Transact, WriteLn, WriteString}
+use Rattle.dbpl_stored_program.specs.declared.insertion.Insertion.{Insertion}
 use Rattle.dbpl_stored_form.specs.Imports.{is_imported}
-use Rattle.dbpl_stored_form.specs.Lists.{all_of, is_empty, one_of, passing}
-use Rattle.dbpl_stored_form.specs.Names.{is_name, is_plain}
+use Rattle.dbpl_stored_form.specs.Lists.{all_of, one_of, passing}
+use Rattle.dbpl_stored_form.specs.Names.{is_plain}
 use Rattle.dbpl_stored_form.specs.declared.schema.Schema.{Schema}
+use Rattle.dbpl_tree.specs.Plain.{argument_of, is_factor, is_name}
 use Rattle.dbpl_tree.specs.Words.{in_out, write_ln, write_string}
 use Rattle.dbpl_tree.specs.declared.aggregate.Aggregate.{Aggregate}
 use Rattle.dbpl_tree.specs.declared.designator.ArgumentsOf.{ArgumentsOf}
@@ -16,7 +17,6 @@ use Rattle.dbpl_tree.specs.declared.designator.DesignatorOf.{DesignatorOf}
 use Rattle.dbpl_tree.specs.declared.element.Element.{Element, Element-F, out-Element}
 use Rattle.dbpl_tree.specs.declared.element.Element.TheOpen as phrases
 use Rattle.dbpl_tree.specs.declared.expr.ExprOf.{ExprOf}
-use Rattle.dbpl_tree.specs.declared.expr.ExprsOf.{ExprsOf}
 use Rattle.dbpl_tree.specs.declared.factor.Factor.{Factor, Factor-F, out-Factor}
 use Rattle.dbpl_tree.specs.declared.operators.ChangeOperator.{ChangeOperator}
 use Rattle.dbpl_tree.specs.declared.operators.ChangeOperator.TheVariants as operators
@@ -27,29 +27,17 @@ use Rattle.dbpl_tree.specs.declared.unit.Import.{Import}
 
 -- ---- expressions
 
--- the expression is one factor and nothing else
-abbrev pub is_factor : ExprOf Factor → Bool
-is_factor e =
-    not (is_some e.right) && not (is_some e.left.sign) && is_empty e.left.others && is_empty e.left.first.others
-
 abbrev pub number_level : {E F R A C : Type 0} → Factor-F E F R A C → Option ℕ
 number_level (phrases.Number place n) = Some n
 number_level _ = None
-
-abbrev pub text_level : {E F R A C : Type 0} → Factor-F E F R A C → Option (List ℕ)
-text_level (phrases.Text place text) = Some text
-text_level _ = None
 
 abbrev pub aggregate_level : {E F R A C : Type 0} → Factor-F E F R A C → Option A
 aggregate_level (phrases.Factor::Aggregate a) = Some a
 aggregate_level _ = None
 
--- the number, the string or the aggregate that an expression is, if it is one and nothing else
+-- the number or the aggregate that an expression is, if it is one and nothing else
 abbrev pub number_of : ExprOf Factor → Option ℕ
 number_of e = if is_factor e then number_level (out-Factor e.left.first.first) else None
-
-abbrev pub text_of : ExprOf Factor → Option (List ℕ)
-text_of e = if is_factor e then text_level (out-Factor e.left.first.first) else None
 
 abbrev pub aggregate_of : ExprOf Factor → Option Aggregate
 aggregate_of e = if is_factor e then aggregate_level (out-Factor e.left.first.first) else None
@@ -131,13 +119,6 @@ abbrev pub insertions_in : Schema → Statement → Option (List Insertion)
 insertions_in schema s = if is_nothing s then Some [] else one_of (insertion_in schema s)
 
 -- ---- bodies
-
--- the string of these expressions, if they are one string and nothing else
-abbrev pub only_text : ExprsOf Factor → Option (List ℕ)
-only_text es = if is_empty es.others then text_of es.first else None
-
-abbrev pub argument_of : ArgumentsOf Factor → Option (List ℕ)
-argument_of a = option_and_then only_text a.exprs
 
 -- a procedure of InOut, called by a name that is imported
 abbrev pub is_call : List ℕ → List Import → DesignatorOf Factor → Bool

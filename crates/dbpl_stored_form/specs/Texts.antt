@@ -2,7 +2,7 @@
 use Rattle.std.specs.Prelude.{◌≡◌, ◌⊎◌, ℕ, List, None, Some}
 use Rattle.dbpl_base.specs.Places.{start_of}
 use Rattle.dbpl_base.specs.declared.place.Place.{Place}
-use Rattle.dbpl_core.specs.declared.stored_program.StoredProgram.{StoredProgram}
+use Rattle.dbpl_stored_program.specs.declared.stored_program.StoredProgram.{StoredProgram}
 use Rattle.dbpl_front.specs.Texts.{IsMisspelt, SpellsUnit}
 use Rattle.dbpl_front.specs.declared.front_err.FrontErr.{FrontErr}
 use Rattle.dbpl_front.specs.declared.front_err.FrontErr.TheVariants as errors

@@ -1,16 +1,17 @@
 //! The statements of the program's body.
 ghost use Rattle.std.specs.Prelude.{◌≡◌, ◌∷◌, if◌then◌else◌, IfOk, None, option_map, Some};
-ghost use Rattle.dbpl_core.specs.declared.action.Action.TheVariants.{WriteString};
+ghost use Rattle.dbpl_stored_program.specs.declared.action.Action.TheVariants.{WriteString};
 ghost use Rattle.dbpl_stored_form.specs.Lists.{all_of, joined};
 ghost use Rattle.dbpl_stored_form.specs.Statements as spec;
+ghost use Rattle.dbpl_tree.specs.Plain.{argument_of as string_in};
 
-use crate::expressions::argument_of;
 use crate::imports::is_imported;
-use crate::names::is_name;
 use crate::statements::is_nothing;
 use dbpl_base::{List, Memory, Name};
-use dbpl_core::Action;
-use dbpl_tree::{Arguments, Designator, Import, Statement, Statements};
+use dbpl_stored_program::Action;
+use dbpl_tree::{
+    Arguments, BoxedArguments, Designator, Import, Statement, Statements, argument_of, is_name,
+};
 use std::alloc::Global;
 
 /// A procedure of InOut, called by a name that is imported.
@@ -22,7 +23,7 @@ fn is_call(imports: &[Import], designator: &Designator, name: &[u8]) -> bool
 }
 
 fn write_string(alloc: Global, arguments: &Arguments) -> Result<Option<Action>, Memory>
-    ensures { IfOk result (λ action. action ≡ option_map WriteString (spec.argument_of arguments.now)) }
+    ensures { IfOk result (λ action. action ≡ option_map WriteString (string_in arguments.now)) }
 {
     match argument_of(arguments) {
         Some(text) => Ok(Some(Action::WriteString(text.copy(alloc)?))),
@@ -37,7 +38,7 @@ fn call_of(
     transaction: &Name,
     imports: &[Import],
     designator: &Designator,
-    arguments: &Option<Arguments>,
+    arguments: &Option<BoxedArguments>,
 ) -> Result<Option<Action>, Memory>
     ensures { IfOk result (λ action. action ≡ spec.call_of transaction.now imports.now designator.now arguments.now) }
 {
@@ -45,7 +46,7 @@ fn call_of(
         None if is_name(designator, transaction.as_bytes()) => Ok(Some(Action::Transact)),
         None if is_call(imports, designator, b"WriteLn") => Ok(Some(Action::WriteLn)),
         Some(arguments) if is_call(imports, designator, b"WriteString") => {
-            write_string(alloc, arguments)
+            write_string(alloc, arguments.get())
         }
         _ => Ok(None),
     }

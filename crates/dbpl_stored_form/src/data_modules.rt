@@ -5,10 +5,10 @@ ghost use Rattle.dbpl_stored_form.specs.DataModules as spec;
 ghost use Rattle.dbpl_stored_form.specs.Lists.{joined, passing};
 
 use crate::Schema;
-use crate::names::{add_names, has_name, is_plain, is_type_name};
+use crate::names::{add_names, is_plain, is_type_name};
 use crate::storing::can_be_kept;
 use dbpl_base::{List, Memory, Name};
-use dbpl_tree::{Common, DataUnit, Fields, PlainDecl, TypeDecl, TypeTree, VarDecl};
+use dbpl_tree::{Common, DataUnit, Fields, PlainDecl, TypeDecl, TypeTree, VarDecl, has_name};
 use std::alloc::Global;
 
 /// Puts the names of these fields behind those that are there, if they are of type CARDINAL.

@@ -6,18 +6,7 @@ ghost use Rattle.dbpl_tree.specs.declared.element.Element.{out-Element};
 ghost use Rattle.dbpl_tree.specs.declared.factor.Factor.{out-Factor};
 
 use crate::names::is_plain;
-use dbpl_base::Name;
-use dbpl_tree::{Aggregate, Arguments, Element, Expr, Exprs, Factor};
-
-fn is_factor(expr: &Expr) -> bool
-    ensures { result ≡ spec.is_factor expr.now }
-{
-    let sum = &expr.left;
-    expr.right.is_none()
-        && sum.sign.is_none()
-        && matches!(sum.others.as_slice(), [])
-        && matches!(sum.first.others.as_slice(), [])
-}
+use dbpl_tree::{Aggregate, Element, Expr, Factor, is_factor};
 
 fn number_in(factor: &Factor) -> Option<u64>
     ensures { result ≡ spec.number_level (out-Factor factor.now) }
@@ -28,20 +17,11 @@ fn number_in(factor: &Factor) -> Option<u64>
     }
 }
 
-fn text_in(factor: &Factor) -> Option<&Name>
-    ensures { option_copied result ≡ spec.text_level (out-Factor factor.now) }
-{
-    match factor {
-        Factor::Text(_, text) => Some(text),
-        _ => None,
-    }
-}
-
 fn aggregate_in(factor: &Factor) -> Option<&Aggregate>
     ensures { option_copied result ≡ spec.aggregate_level (out-Factor factor.now) }
 {
     match factor {
-        Factor::Aggregate(aggregate) => Some(aggregate),
+        Factor::Aggregate(aggregate) => Some(aggregate.get()),
         _ => None,
     }
 }
@@ -52,16 +32,6 @@ pub(crate) fn number_of(expr: &Expr) -> Option<u64>
 {
     if is_factor(expr) {
         number_in(&expr.left.first.first)
-    } else {
-        None
-    }
-}
-
-fn text_of(expr: &Expr) -> Option<&Name>
-    ensures { option_copied result ≡ spec.text_of expr.now }
-{
-    if is_factor(expr) {
-        text_in(&expr.left.first.first)
     } else {
         None
     }
@@ -94,24 +64,5 @@ pub(crate) fn plain_of(element: &Element) -> Option<&Expr>
     match element {
         Element::Plain(expr) => Some(expr),
         _ => None,
-    }
-}
-
-fn only_text(exprs: &Exprs) -> Option<&Name>
-    ensures { option_copied result ≡ spec.only_text exprs.now }
-{
-    match exprs.others.as_slice() {
-        [] => text_of(exprs.first.get()),
-        _ => None,
-    }
-}
-
-/// The string in the parentheses of a call, if there is one and nothing else.
-pub(crate) fn argument_of(arguments: &Arguments) -> Option<&Name>
-    ensures { option_copied result ≡ spec.argument_of arguments.now }
-{
-    match &arguments.exprs {
-        Some(exprs) => only_text(exprs),
-        None => None,
     }
 }

@@ -6,14 +6,13 @@ ghost use Rattle.dbpl_stored_form.specs.Programs as spec;
 use crate::Schema;
 use crate::actions::all_actions;
 use crate::data_modules::schema_of;
-use crate::different::are_different;
 use crate::imports::{are_lines, imported_names};
 use crate::insertions::all_insertions;
-use crate::names::has_name;
 use crate::storing::{stands_in, variable_of};
 use dbpl_base::{Memory, Name};
-use dbpl_core::StoredProgram;
-use dbpl_tree::{DataUnit, Decl, Program, Routine, RoutineWord, Signature, Unit};
+use dbpl_stored_program::StoredProgram;
+use dbpl_tree::{DataUnit, Decl, Program, Routine, RoutineWord, Signature, Unit, has_name};
+use dbpl_value::are_different;
 use std::alloc::Global;
 
 /// Neither parameters nor a result.
@@ -43,7 +42,7 @@ fn transaction_in(declarations: &[Decl]) -> Option<&Routine>
     ensures { option_copied result ≡ spec.transaction_in declarations.now }
 {
     match declarations {
-        [Decl::Routine(routine)] if is_transaction(routine) => Some(routine),
+        [Decl::Routine(routine)] if is_transaction(routine.get()) => Some(routine.get()),
         _ => None,
     }
 }

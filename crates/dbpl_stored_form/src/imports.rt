@@ -2,12 +2,13 @@
 ghost use Rattle.std.specs.Prelude.{◌≡◌, ◌∷◌, IfOk};
 ghost use Rattle.std.specs.List.{list_all, list_any};
 ghost use Rattle.dbpl_stored_form.specs.Imports as spec;
-ghost use Rattle.dbpl_stored_form.specs.Names.{has_name as has_name_of};
+ghost use Rattle.dbpl_stored_form.specs.Names.{names_of};
+ghost use Rattle.dbpl_tree.specs.Plain.{has_name as has_name_of};
 
 use crate::Schema;
-use crate::names::{add_names, has_name};
+use crate::names::add_names;
 use dbpl_base::{List, Memory, Name};
-use dbpl_tree::{Ident, Idents, Import};
+use dbpl_tree::{Ident, Idents, Import, has_name};
 use std::alloc::Global;
 
 fn is_one_of(idents: &[Ident], name: &[u8]) -> bool
@@ -117,7 +118,7 @@ pub(crate) fn are_lines(schema: &Schema, imports: &[Import]) -> bool
 }
 
 fn names_in(import: &Import) -> &Idents
-    ensures { spec.names_in import.now ≡ Rattle.dbpl_stored_form.specs.Names.names_of result.now }
+    ensures { spec.names_in import.now ≡ names_of result.now }
 {
     match import {
         Import::From(_, _, names) => names,

@@ -6,11 +6,10 @@ ghost use Rattle.dbpl_stored_form.specs.Statements as spec;
 use crate::Schema;
 use crate::aggregates::rows_of;
 use crate::expressions::aggregate_named;
-use crate::names::is_name;
 use crate::statements::is_nothing;
 use dbpl_base::{List, Memory, Place};
-use dbpl_core::Insertion;
-use dbpl_tree::{ChangeOperator, Designator, Expr, Statement, Statements};
+use dbpl_stored_program::Insertion;
+use dbpl_tree::{ChangeOperator, Designator, Expr, Statement, Statements, is_name};
 use std::alloc::Global;
 
 /// The insertion of this set expression.
@@ -52,7 +51,7 @@ fn insertion_in(
     match statement {
         Statement::Change(target, place, operator, expr)
             if is_added_to(schema, target, *operator) => {
-            insertion_of(alloc, schema, *place, expr)
+            insertion_of(alloc, schema, *place, expr.get())
         }
         _ => Ok(None),
     }

@@ -1,13 +1,13 @@
 //! Laws of the form. The functions do nothing: their contracts are the laws.
 ghost use Rattle.std.specs.Prelude.{◌≡◌, ℕ, IsTrue, List, Some};
 ghost use Rattle.dbpl_base.specs.declared.place.Place.{Place};
-ghost use Rattle.dbpl_core.specs.Programs.{is_small_program};
-ghost use Rattle.dbpl_core.specs.declared.stored_program.StoredProgram.{StoredProgram};
+ghost use Rattle.dbpl_stored_program.specs.Programs.{is_small_program};
+ghost use Rattle.dbpl_stored_program.specs.declared.stored_program.StoredProgram.{StoredProgram};
 ghost use Rattle.dbpl_stored_form.specs.Programs.{stored_of};
 ghost use Rattle.dbpl_stored_form.specs.Texts.{IsRefused, IsStored};
 ghost use Rattle.dbpl_tree.specs.declared.unit.Unit.{Unit as Tree};
 
-use dbpl_core::flat_type_is_kept;
+use dbpl_stored_program::flat_type_is_kept;
 
 /// A program of the form is one that can be run: its relation variable can be kept, and each row has a number of CARDINAL
 /// for each field.

@@ -4,7 +4,6 @@
 mod actions;
 mod aggregates;
 mod data_modules;
-mod different;
 mod expressions;
 mod form;
 mod imports;

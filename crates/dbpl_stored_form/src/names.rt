@@ -3,27 +3,14 @@ ghost use Rattle.std.specs.Prelude.{◌≡◌, ◌++◌, IfOk};
 ghost use Rattle.dbpl_stored_form.specs.Names as spec;
 
 use dbpl_base::{List, Memory, Name};
-use dbpl_tree::{Designator, Ident, Idents, Qual, TypeTree};
+use dbpl_tree::{Idents, Qual, TypeTree, has_name};
 use std::alloc::Global;
-
-pub(crate) fn has_name(ident: &Ident, name: &[u8]) -> bool
-    ensures { result ≡ spec.has_name name.now ident.now }
-{
-    ident.name.as_bytes() == name
-}
 
 /// A name without that of a module before it.
 pub(crate) fn is_plain(qual: &Qual, name: &[u8]) -> bool
     ensures { result ≡ spec.is_plain name.now qual.now }
 {
     has_name(&qual.first, name) && qual.second.is_none()
-}
-
-/// Whether the designator is this name and nothing else.
-pub(crate) fn is_name(designator: &Designator, name: &[u8]) -> bool
-    ensures { result ≡ spec.is_name name.now designator.now }
-{
-    has_name(&designator.head, name) && matches!(designator.parts.as_slice(), [])
 }
 
 /// Whether the type is this name and nothing else.

@@ -1,7 +1,8 @@
 //! Two texts as a whole: the units that they spell, and the program that these are.
 ghost use Rattle.std.specs.Prelude.{◌≡◌, ◌≢◌, ℕ, ◌≤◌, length, IfErr, IfOk, IsTrue, List, Some};
-ghost use Rattle.dbpl_core.specs.Programs.{is_small_program};
-ghost use Rattle.dbpl_core.specs.declared.stored_program.StoredProgram.{StoredProgram as AProgram};
+ghost use Rattle.dbpl_base.specs.declared.limits.TheConstants.{TEXT_BYTES};
+ghost use Rattle.dbpl_stored_program.specs.Programs.{is_small_program};
+ghost use Rattle.dbpl_stored_program.specs.declared.stored_program.StoredProgram.{StoredProgram as AProgram};
 ghost use Rattle.dbpl_front.specs.Texts.{SpellsUnit};
 ghost use Rattle.dbpl_stored_form.specs.Programs.{stored_of};
 ghost use Rattle.dbpl_stored_form.specs.Texts.{IsStored, IsUnread};
@@ -9,8 +10,8 @@ ghost use Rattle.dbpl_stored_form.specs.Texts.{IsStored, IsUnread};
 use crate::form::stored;
 use crate::laws::stored_is_small;
 use dbpl_base::{Place, Refusal};
-use dbpl_core::StoredProgram;
 use dbpl_front::{FrontErr, unit_in};
+use dbpl_stored_program::StoredProgram;
 use dbpl_tree::Unit;
 use std::alloc::Global;
 
@@ -37,7 +38,7 @@ fn built(alloc: Global, database: &Unit, program: &Unit) -> Result<StoredProgram
 
 /// The program that the tree of a database module and the text of a program module are, if they are of the form.
 fn read_program(alloc: Global, database: &Unit, text: &[u8]) -> Result<StoredProgram, FrontErr>
-    requires { length text.now ≤ 67108864 }
+    requires { length text.now ≤ TEXT_BYTES }
     ensures found { IfOk result (λ stored. (schema : List ℕ) → SpellsUnit 0 schema database.now → IsStored schema text.now stored) }
     ensures refused { IfErr result (λ error. (schema : List ℕ) → SpellsUnit 0 schema database.now → IsUnread schema text.now error) }
 {
@@ -47,8 +48,8 @@ fn read_program(alloc: Global, database: &Unit, text: &[u8]) -> Result<StoredPro
 
 /// The program that the texts of a database module and of a program module are, if they are of the form.
 pub fn read_stored(alloc: Global, schema: &[u8], program: &[u8]) -> Result<StoredProgram, FrontErr>
-    requires schema { length schema.now ≤ 67108864 }
-    requires program { length program.now ≤ 67108864 }
+    requires schema { length schema.now ≤ TEXT_BYTES }
+    requires program { length program.now ≤ TEXT_BYTES }
     ensures found { IfOk result (λ stored. IsStored schema.now program.now stored) }
     ensures only { IfOk result (λ stored. (other : AProgram) → IsStored schema.now program.now other → other ≡ stored) }
     ensures small { IfOk result (λ stored. IsTrue (is_small_program stored)) }

@@ -1,23 +1,17 @@
 //! The relation variable that a database module declares, as it is stored.
 ghost use Rattle.std.specs.Prelude.{◌≡◌, ◌+◌, [], ◌∷◌, IfOk, length, map, nat_le};
 ghost use Rattle.std.specs.List.{list_all, list_any};
-ghost use Rattle.dbpl_base.specs.Words.{is_letter as is_letter_byte, is_word_byte};
-ghost use Rattle.dbpl_core.specs.Programs.{cardinal_field, flat_type};
+ghost use Rattle.dbpl_base.specs.declared.limits.TheConstants.{RELATION_NAME_BYTES};
+ghost use Rattle.dbpl_stored_program.specs.Programs.{cardinal_field, flat_type};
 ghost use Rattle.dbpl_stored_form.specs.DataModules as spec;
 ghost use Rattle.dbpl_value.specs.Types.{are_names as are_names_of, is_identifier as is_identifier_name, is_same_name};
 ghost use Rattle.dbpl_value.specs.declared.db_type.DbType.TheVariants as kinds;
 
 use crate::Schema;
-use crate::different::are_different;
+use dbpl_base::limits::{RELATION_NAME_BYTES, SCALARS};
 use dbpl_base::{Boxed, List, Memory, Name};
-use dbpl_value::{DbType, Field, field_of};
+use dbpl_value::{DbType, Field, are_different, field_of, is_identifier};
 use std::alloc::Global;
-
-/// How many bytes the name of a relation variable may take, the full stop in it with them.
-const NAME_BYTES: usize = 128;
-
-/// How many scalars a value may have.
-const SCALARS: usize = 65_536;
 
 /// Whether the relation variable can be stored.
 pub(crate) fn can_be_kept(alloc: Global, schema: &Schema) -> Result<bool, Memory>
@@ -37,15 +31,15 @@ fn is_variable_name(unit: &Name, variable: &Name) -> bool
 }
 
 fn are_short(unit: &[u8], variable: &[u8]) -> bool
-    ensures { result ≡ nat_le (length unit.now + 1 + length variable.now) 128 }
+    ensures { result ≡ nat_le (length unit.now + 1 + length variable.now) RELATION_NAME_BYTES }
 {
-    unit.len() < NAME_BYTES && variable.len() < NAME_BYTES - unit.len()
+    unit.len() < RELATION_NAME_BYTES && variable.len() < RELATION_NAME_BYTES - unit.len()
 }
 
 fn are_fields(alloc: Global, key: &Name, names: &[Name]) -> Result<bool, Memory>
     ensures { IfOk result (λ answer. answer ≡ spec.are_fields key.now names.now) }
 {
-    if !stands_in(key, names) || names.len() > SCALARS {
+    if !stands_in(key, names) || names.len() as u64 > SCALARS {
         return Ok(false);
     }
     are_names(alloc, names)
@@ -71,27 +65,6 @@ fn are_identifiers(names: &[Name]) -> bool
     ensures { result ≡ list_all is_identifier_name names.now }
 {
     names.iter().all(|name| is_identifier(name.as_bytes()))
-}
-
-fn is_identifier(name: &[u8]) -> bool
-    ensures { result ≡ is_identifier_name name.now }
-{
-    match name.split_first() {
-        Some((first, others)) => is_letter(*first) && are_word_bytes(others),
-        None => false,
-    }
-}
-
-fn is_letter(byte: u8) -> bool
-    ensures { result ≡ is_letter_byte byte }
-{
-    byte.is_ascii_alphabetic()
-}
-
-fn are_word_bytes(bytes: &[u8]) -> bool
-    ensures { result ≡ list_all is_word_byte bytes.now }
-{
-    bytes.iter().all(|byte| byte.is_ascii_alphanumeric())
 }
 
 /// The relation variable, by the name under which it is stored.

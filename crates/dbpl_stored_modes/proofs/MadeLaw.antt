@@ -8,10 +8,10 @@ use Rattle.dbpl_log.specs.Records.{HasHead}
 use Rattle.dbpl_log.specs.declared.create_err.CreateErr.{CreateErr}
 use Rattle.dbpl_log.specs.declared.create_err.CreateErr.TheVariants as errors
 use Rattle.dbpl_sources.specs.Work.{Work}
-use Rattle.dbpl_store.specs.Beginning.{LeavesBegun, MayBegin, StandsEmpty}
+use Rattle.dbpl_store.specs.Beginning.{LeavesBegun, MayBecomeEmpty, StandsEmpty}
 use Rattle.dbpl_store.specs.Stands.{LeavesOld}
 use Rattle.dbpl_stored_modes.proofs.Mounting.{changes_first, changes_there, moments_mounted, mounted_disk, mounted_name, mounted_said, mounted_state, mounted_then, rose_later}
-use Rattle.dbpl_stored_modes.specs.Creating.{Creates, answer_of, IsBegun, IsCreateAnswer, IsUnlessFault}
+use Rattle.dbpl_stored_modes.specs.Creating.{Creates, answer_of, IsBeingMade, IsCreateAnswer, IsUnlessFault}
 use Rattle.dbpl_stored_modes.specs.Images.{EachImage, IsLeft, StandsThere}
 use Rattle.dbpl_stored_modes.specs.Leaving.{ChangesOnly}
 use Rattle.dbpl_world.specs.Counts.{Rose}
@@ -22,7 +22,7 @@ use Rattle.dbpl_world.specs.Images.{IsImage}
 use Rattle.dbpl_world.specs.Moments.{EachMoment, LeavesOnly, LeavesOnlyAt}
 
 -- nothing was done yet
-pub not_begun : (name : List ℕ) (h : History) → EachImage name (now h) MayBegin → EachMoment (LeavesOnlyAt name (IsBegun (now h).said)) h h
+pub not_begun : (name : List ℕ) (h : History) → EachImage name (now h) MayBecomeEmpty → EachMoment (LeavesOnlyAt name (IsBeingMade (now h).said)) h h
 not_begun name h may = moments_start _ h (λ log pages log_left pages_left. record { stage = inl (may log pages log_left pages_left); said_is = refl })
 
 pub not_left : (name : List ℕ) (h : History) → EachMoment (LeavesOnlyAt name (IsLeft (store_of (now h) name) (now h).said)) h h
@@ -34,12 +34,12 @@ others_name name m s named others = ap (λ (t : State). t.mounted) others ∙ na
 
 module _ (name : List ℕ) (old mid : History) (mount : mid ≡ more old (Mounted name ∷ [])) where
   -- what a call wants of the mounted store is wanted of the one of that name
-  pub may_there : EachImage name (now old) MayBegin → (log pages : List ℕ) → IsImage (now mid).disk.log log → IsImage (now mid).disk.pages pages → MayBegin log pages
+  pub may_there : EachImage name (now old) MayBecomeEmpty → (log pages : List ℕ) → IsImage (now mid).disk.log log → IsImage (now mid).disk.pages pages → MayBecomeEmpty log pages
   may_there may log pages log_left pages_left =
       may log pages (subst (λ (d : Store). IsImage d.log log) (mounted_disk name old mid mount) log_left)
       (subst (λ (d : Store). IsImage d.pages pages) (mounted_disk name old mid mount) pages_left)
 
-  begun_here : (s : State) → LeavesBegun (now mid) s → (s.mounted ≡ Some name) × LeavesOnly (IsBegun (now old).said) s
+  begun_here : (s : State) → LeavesBegun (now mid) s → (s.mounted ≡ Some name) × LeavesOnly (IsBeingMade (now old).said) s
   begun_here s begun = (
     others_name name (now mid) s (mounted_name name old mid mount) begun.others,
     λ log pages log_left pages_left. record {
@@ -48,10 +48,10 @@ module _ (name : List ℕ) (old mid : History) (mount : mid ≡ more old (Mounte
     },
   )
 
-  pub begun_there : (new : History) → EachImage name (now old) MayBegin → EachMoment (LeavesBegun (now mid)) mid new →
-      EachMoment (LeavesOnlyAt name (IsBegun (now old).said)) old new
+  pub begun_there : (new : History) → EachImage name (now old) MayBecomeEmpty → EachMoment (LeavesBegun (now mid)) mid new →
+      EachMoment (LeavesOnlyAt name (IsBeingMade (now old).said)) old new
   begun_there new may run =
-      mounted_then name old mid mount (IsBegun (now old).said) new
+      mounted_then name old mid mount (IsBeingMade (now old).said) new
       (λ log pages log_left pages_left. record { stage = inl (may log pages log_left pages_left); said_is = refl })
       (moments_weaken (LeavesBegun (now mid)) _ mid new begun_here run)
 
@@ -93,7 +93,7 @@ free_foreign disk free foreign = by_length foreign.long
 
 -- what making an empty store of the mounted one says
 pub record Made (tells : _) (mid new : History) (counts_mid counts_new : Counts) (result : Result (Unit {0}) CreateErr) : Type 0 where
-  pub moments : IsTrue tells → ((log pages : List ℕ) → IsImage (now mid).disk.log log → IsImage (now mid).disk.pages pages → MayBegin log pages) → EachMoment (LeavesBegun (now mid)) mid new
+  pub moments : IsTrue tells → ((log pages : List ℕ) → IsImage (now mid).disk.log log → IsImage (now mid).disk.pages pages → MayBecomeEmpty log pages) → EachMoment (LeavesBegun (now mid)) mid new
   pub made : IsTrue tells → OnOk result (StandsEmpty (now new))
   pub bytes : IsTrue tells → OnOk result ((now new).disk.log.now ≡ begun (now mid).disk.log.now)
   pub writes : IsTrue tells → EachMoment (WritesLog (now mid)) mid new
@@ -274,7 +274,7 @@ module _ (name : List ℕ) (work : Work) (answer : Status) (still : IsTrue work.
   uncreated why = record {
     answers = unmounted_answer why;
     moments = λ told may.
-        subst (λ (h : History). EachMoment (LeavesOnlyAt name (IsBegun (now work.before).said)) work.before h) (sym (still told)) (not_begun name work.before may);
+        subst (λ (h : History). EachMoment (LeavesOnlyAt name (IsBeingMade (now work.before).said)) work.before h) (sym (still told)) (not_begun name work.before may);
     made = λ told e. absurd (not_that why status.Done (λ d. cc) (λ d. cc) e);
     bytes = λ told e. absurd (not_that why status.Done (λ d. cc) (λ d. cc) e);
     free = λ told e. absurd (not_that why status.Done (λ d. cc) (λ d. cc) e);

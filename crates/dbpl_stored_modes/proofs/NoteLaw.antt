@@ -1,19 +1,19 @@
 -- A report that is noted behind the work changes nothing of what the work says.
 use Rattle.std.proofs.Common.{◌≡◌, ◌∙◌, ◌⊎◌, ℕ, List, [], IsTrue, ap, inl, inr, subst, sym}
 use Rattle.dbpl_base.specs.declared.status.Status.{Status}
-use Rattle.dbpl_core.specs.Meaning.{Standing}
-use Rattle.dbpl_core.specs.Whole.{events_of}
-use Rattle.dbpl_core.specs.declared.stored_program.StoredProgram.{StoredProgram}
-use Rattle.dbpl_sources.proofs.Noting.{IsNotedBehind, disk_rose, notes_on, reported, say_rose}
+use Rattle.dbpl_stored_program.specs.Meaning.{Standing}
+use Rattle.dbpl_stored_program.specs.Whole.{events_of}
+use Rattle.dbpl_stored_program.specs.declared.stored_program.StoredProgram.{StoredProgram}
+use Rattle.dbpl_sources.proofs.Noting.{IsNotedBehind, disk_rose, notes_on, reported, said_on, say_rose}
 use Rattle.dbpl_sources.specs.Work.{OnlyNotes, Work}
 use Rattle.dbpl_stored_modes.proofs.Mounting.{changes_noted, moments_noted, moments_on, said_noted, there_noted}
-use Rattle.dbpl_stored_modes.specs.Creating.{Creates, IsBegun}
+use Rattle.dbpl_stored_modes.specs.Creating.{Creates, IsBeingMade}
 use Rattle.dbpl_stored_modes.specs.Images.{IsLeft, StandsThere}
 use Rattle.dbpl_stored_modes.specs.Leaving.{ChangesOnly}
 use Rattle.dbpl_stored_modes.specs.Reading.{IsNoProgram, ReadsProgram}
 use Rattle.dbpl_stored_modes.specs.Runs.{Runs}
-use Rattle.dbpl_stored_modes.specs.StoredRuns.{HasAll, HasOther, HasRun, IsDamaged, ReadsOver, RunsOver, RunsStored}
-use Rattle.dbpl_stored_run.specs.Headline.{IsTied}
+use Rattle.dbpl_stored_modes.specs.StoredRuns.{HasAll, HasOtherThere, HasRunThere, IsDamaged, ReadsOver, RunsOver, RunsStored}
+use Rattle.dbpl_stored_run.specs.Headline.{HasMadePrefix}
 use Rattle.dbpl_value.specs.declared.bound.Bound.{Bound}
 use Rattle.dbpl_world.specs.History.{History, Store, now, store_of}
 use Rattle.dbpl_world.specs.Images.{IsImage}
@@ -46,7 +46,7 @@ module _ (name : List ℕ) (work : Work) (after : History) (counts : Counts) (no
   pub creates_noted : (answer : Status) → Creates name work answer → Creates name (reported work after counts) answer
   creates_noted answer c = record {
     answers = c.answers;
-    moments = λ told may. moments told (IsBegun (now work.before).said) (c.moments told may);
+    moments = λ told may. moments told (IsBeingMade (now work.before).said) (c.moments told may);
     made = λ told e. empty_at_end told [] (c.made told e);
     bytes = λ told e. ap (λ (s : Store). s.log.now) (there told) ∙ c.bytes told e;
     free = c.free;
@@ -81,14 +81,14 @@ module _ (name : List ℕ) (work : Work) (after : History) (counts : Counts) (no
   damaged_after : IsDamaged name work → IsDamaged name (reported work after counts)
   damaged_after d = record { named = d.named; head = d.head; none = d.none }
 
-  other_before : {stored : StoredProgram} → HasOther name (reported work after counts) stored → HasOther name work stored
+  other_before : {stored : StoredProgram} → HasOtherThere name (reported work after counts) stored → HasOtherThere name work stored
   other_before o = record { named = o.named; database = o.database; reads = o.reads; differs = o.differs }
 
-  other_after : {stored : StoredProgram} → HasOther name work stored → HasOther name (reported work after counts) stored
+  other_after : {stored : StoredProgram} → HasOtherThere name work stored → HasOtherThere name (reported work after counts) stored
   other_after o = record { named = o.named; database = o.database; reads = o.reads; differs = o.differs }
 
   run_noted : IsTrue work.tells → {stored : StoredProgram} {database bound : List Bound} {standing : Standing} →
-      HasRun name work stored database bound standing → HasRun name (reported work after counts) stored database bound standing
+      HasRunThere name work stored database bound standing → HasRunThere name (reported work after counts) stored database bound standing
   run_noted told {stored = stored} {database = database} {bound = bound} has = record {
     stands_so = has.stands_so;
     all = at_end told (HasAll (events_of stored bound (now work.before).input) database (now work.before).said) has.all;
@@ -98,7 +98,7 @@ module _ (name : List ℕ) (work : Work) (after : History) (counts : Counts) (no
   stored_noted stored answer r = record {
     answers = r.answers;
     headline = λ told database bound over.
-        moments told (IsTied (events_of stored bound (now work.before).input) database (now work.before).said) (r.headline told database bound (over_before over));
+        moments told (HasMadePrefix (events_of stored bound (now work.before).input) database (now work.before).said) (r.headline told database bound (over_before over));
     done = λ told database bound over e. run_noted told (r.done told database bound (reads_before over) e);
     trapped = λ told database bound over trap e. run_noted told (r.trapped told database bound (reads_before over) trap e);
     complete = λ told database bound over named no_shelf no_disk no_say.
@@ -117,6 +117,7 @@ module _ (name : List ℕ) (work : Work) (after : History) (counts : Counts) (no
     source_fault = r.source_fault;
     disk_fault = λ e. disk_rose work after counts noted (r.disk_fault e);
     out_fault = λ e. say_rose work after counts noted (r.out_fault e);
+    out_fault_where = said_on work after counts noted r.out_fault_where;
   }
 
   -- why a run over files was answered so
@@ -145,4 +146,5 @@ module _ (name : List ℕ) (work : Work) (after : History) (counts : Counts) (no
     source_fault = r.source_fault;
     disk_fault = λ e. disk_rose work after counts noted (r.disk_fault e);
     out_fault = λ e. say_rose work after counts noted (r.out_fault e);
+    out_fault_where = said_on work after counts noted r.out_fault_where;
   }

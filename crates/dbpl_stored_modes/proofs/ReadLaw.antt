@@ -2,10 +2,10 @@
 use Rattle.std.proofs.Common.{◌≡◌, ◌≤◌, ℕ, List, Some, Option, Result, Ok, Err, IfErr, IfOk, IfSome, inr, length, subst, sym}
 use Rattle.dbpl_base.specs.declared.limits.TheConstants.{SOURCE_BYTES}
 use Rattle.dbpl_base.specs.declared.status.Status.{Status}
-use Rattle.dbpl_core.specs.declared.stored_program.StoredProgram.{StoredProgram}
+use Rattle.dbpl_stored_program.specs.declared.stored_program.StoredProgram.{StoredProgram}
 use Rattle.dbpl_sources.specs.Texts.{MayHave}
 use Rattle.dbpl_stored_form.specs.Texts.{IsStored}
-use Rattle.dbpl_stored_modes.specs.Reading.{IsNoProgram, IsRefusal, ReadsProgram}
+use Rattle.dbpl_stored_modes.specs.Reading.{IsNoProgram, AreRefused, ReadsProgram}
 use Rattle.dbpl_world.specs.Files.{Files, file_of}
 
 -- the text of a file, as it was handed on
@@ -30,7 +30,7 @@ module _ (files : Option Files) (schema program schema_text program_text : List 
   }
   reads_program (Err status) is = tt
 
-  pub refuses : (before after : ℕ) (result : Result StoredProgram Status) → IfErr result (λ status. IsRefusal schema_text program_text status) →
+  pub refuses : (before after : ℕ) (result : Result StoredProgram Status) → IfErr result (λ status. AreRefused schema_text program_text status) →
       IfErr result (λ status. IsNoProgram files schema program before after status)
   refuses before after (Ok stored) why = tt
   refuses before after (Err status) why = inr (inr (schema_text, program_text, schema_has, program_has, why))

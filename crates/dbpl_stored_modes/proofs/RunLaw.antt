@@ -4,11 +4,12 @@ use Rattle.std.specs.Prelude.{bytes_eq}
 use Rattle.dbpl_base.specs.declared.status.Status.{Status}
 use Rattle.dbpl_base.specs.declared.status.Status.TheVariants as status
 use Rattle.dbpl_core.specs.Events.{Event, prints}
-use Rattle.dbpl_core.specs.Meaning.{Ended, Going, Standing, Trapped}
-use Rattle.dbpl_core.specs.Whole.{events_of, whole}
-use Rattle.dbpl_core.specs.declared.stored_program.StoredProgram.{StoredProgram}
+use Rattle.dbpl_stored_program.specs.Meaning.{Ended, Going, Standing, Trapped}
+use Rattle.dbpl_stored_program.specs.Whole.{events_of, whole}
+use Rattle.dbpl_stored_program.specs.declared.stored_program.StoredProgram.{StoredProgram}
 use Rattle.dbpl_core.specs.declared.trap.Trap.{Trap}
-use Rattle.dbpl_database.specs.Binding.{Binds, Differs, bound_named}
+use Rattle.dbpl_value.proofs.BoundTo.{binds-one}
+use Rattle.dbpl_value.specs.Binding.{Binds, Differs, bound_named}
 use Rattle.dbpl_log.specs.Records.{HasHead}
 use Rattle.dbpl_sources.proofs.Noting.{still_notes}
 use Rattle.dbpl_sources.specs.Work.{Work}
@@ -17,10 +18,10 @@ use Rattle.dbpl_stored_modes.proofs.MadeLaw.{left_there, not_left}
 use Rattle.dbpl_stored_modes.proofs.Mounting.{changes_first, changes_there, moments_mounted, mounted_disk, mounted_name, mounted_said, mounted_state, mounted_then, rose_later}
 use Rattle.dbpl_stored_modes.specs.Images.{IsLeft, ReadsThere, StandsThere}
 use Rattle.dbpl_stored_modes.specs.Leaving.{ChangesOnly}
-use Rattle.dbpl_stored_modes.specs.StoredRuns.{HasAll, HasNone, HasOther, HasRun, IsAnswer, IsDamaged, IsDueAnswer, IsRunAnswer, IsUnlessUnopened, IsUnrun, ReadsOver, RunsOver, RunsStored, no_store}
+use Rattle.dbpl_stored_modes.specs.StoredRuns.{HasAll, HasNone, HasOtherThere, HasRunThere, TellsOfRun, IsDamaged, IsDueAnswer, IsRunAnswer, IsUnlessUnopened, IsUnrun, ReadsOver, RunsOver, RunsStored, no_store}
 use Rattle.dbpl_stored_run.specs.Answers as ran
 use Rattle.dbpl_stored_run.specs.Answers.{IsDue, IsRefusal, ReadsAs}
-use Rattle.dbpl_stored_run.specs.Headline.{HasMade, IsTied, LeavesTied, StandsFor}
+use Rattle.dbpl_stored_run.specs.Headline.{HasMade, HasMadePrefix, LeavesTied, StandsFor}
 use Rattle.dbpl_stored_run.specs.Leaving.{ChangesStore}
 use Rattle.dbpl_stored_run.specs.declared.stop_err.StopErr.{StopErr}
 use Rattle.dbpl_stored_run.specs.declared.stop_err.StopErr.TheVariants as errors
@@ -35,26 +36,13 @@ use Rattle.dbpl_world.specs.declared.counts.Counts.{Counts}
 
 -- ---- databases
 
--- a database is bound in one way
-pub one_binding : (field : Field) (database one other : List Bound) → Binds field database one → Binds field database other → one ≡ other
-one_binding field database one other (inl h) (inl k) = h.1 ∙ sym k.1
-one_binding field database one other (inl h) (inr k) =
-    let there : bound_named field.name database ≡ Some h.0.0 = h.0.1 in
-    let none : bound_named field.name database ≡ None = k.0 in
-    absurd (cc)
-one_binding field database one other (inr h) (inl k) =
-    let there : bound_named field.name database ≡ Some k.0.0 = k.0.1 in
-    let none : bound_named field.name database ≡ None = h.0 in
-    absurd (cc)
-one_binding field database one other (inr h) (inr k) = h.1 ∙ sym k.1
-
 -- a name that was compared with `-`
 pub named_store : (name : List ℕ) → false ≡ bytes_eq name no_store → name ≢ no_store
 named_store name differs e = let same : false ≡ true = subst (λ (other : List ℕ). false ≡ bytes_eq other no_store) e differs in absurd (cc)
 
 -- ---- what a run over the mounted store says
 
-pub record Ran (stored : StoredProgram) (tells : Bool) (mid new : History) (counts_mid counts_new : Counts) (result : Result (Unit {0}) StopErr) : Type 0 where
+pub record RanMounted (stored : StoredProgram) (tells : Bool) (mid new : History) (counts_mid counts_new : Counts) (result : Result (Unit {0}) StopErr) : Type 0 where
   pub headline : IsTrue tells → (database bound : List Bound) → StandsFor database (now mid) → Binds stored.relation database bound →
       EachMoment (LeavesTied (events_of stored bound (now mid).input) database (now mid)) mid new
   pub made : IsTrue tells → (database bound : List Bound) → ReadsAs database (now mid) → Binds stored.relation database bound →
@@ -76,6 +64,7 @@ pub record Ran (stored : StoredProgram) (tells : Bool) (mid new : History) (coun
       (result ≡ Err errors.SchemaDiffers) ⊎ ((result ≡ Err errors.DiskFault) ⊎ (result ≡ Err errors.Memory))
   pub disk_fault : result ≡ Err errors.DiskFault → Rose counts_mid.disk_faults counts_new.disk_faults
   pub out_fault : result ≡ Err errors.OutFault → Rose counts_mid.say_faults counts_new.say_faults
+  pub out_fault_where : (result ≡ Err errors.OutFault) ⊎ (counts_new.say_faults ≡ counts_mid.say_faults)
   pub refused : IsTrue tells → IfErr result (λ why. IsRefusal why → EachMoment (LeavesOld (now mid)) mid new)
   pub unbound : IsTrue tells → ((database bound : List Bound) → ReadsAs database (now mid) → Binds stored.relation database bound → ⊥) → EachMoment (LeavesOld (now mid)) mid new
   pub only : IsTrue tells → EachMoment (ChangesStore (now mid)) mid new
@@ -94,7 +83,7 @@ HasCome stored result status.OutFault = result ≡ Err errors.OutFault
 HasCome stored result status.Memory = Unit {0}
 HasCome stored result _ = ⊥
 
-has_come : (stored : StoredProgram) (result : Result (Unit {0}) StopErr) (answer : Status) → IsAnswer stored result answer → HasCome stored result answer
+has_come : (stored : StoredProgram) (result : Result (Unit {0}) StopErr) (answer : Status) → TellsOfRun stored result answer → HasCome stored result answer
 has_come stored (Ok made) answer is = subst (HasCome stored (Ok made)) (sym is) refl
 has_come stored (Err (errors.Trapped trap)) answer is = subst (HasCome stored (Err (errors.Trapped trap))) (sym is) refl
 has_come stored (Err errors.NotStore) answer is = subst (HasCome stored (Err errors.NotStore)) (sym is) refl
@@ -122,7 +111,7 @@ on_ok : {A : Type 0} (result : Result (Unit {0}) StopErr) → IsOk result → On
 on_ok (Ok _) ok holds = holds
 on_ok (Err why) ok holds = absurd (cc)
 
-ok_answer : (stored : StoredProgram) (result : Result (Unit {0}) StopErr) (answer : Status) → IsAnswer stored result answer → IsOk result → answer ≡ status.Done
+ok_answer : (stored : StoredProgram) (result : Result (Unit {0}) StopErr) (answer : Status) → TellsOfRun stored result answer → IsOk result → answer ≡ status.Done
 ok_answer stored (Ok _) answer is ok = is
 ok_answer stored (Err why) answer is ok = absurd (cc)
 
@@ -131,7 +120,7 @@ ok_answer stored (Err why) answer is ok = absurd (cc)
 module _ (name : List ℕ) (stored : StoredProgram) (work : Work) (mid : History) (counts_mid : Counts) (result : Result (Unit {0}) StopErr) (answer : Status)
     (named : name ≢ no_store) (mount : IsTrue work.tells → mid ≡ more work.before (Mounted name ∷ []))
     (disk_later : work.counts_before.disk_faults ≤ counts_mid.disk_faults) (say_same : counts_mid.say_faults ≡ work.counts_before.say_faults)
-    (run : Ran stored work.tells mid work.after counts_mid work.counts_after result) (is : IsAnswer stored result answer) where
+    (run : RanMounted stored work.tells mid work.after counts_mid work.counts_after result) (is : TellsOfRun stored result answer) where
   -- the result behind this answer
   come_as : (due : Status) → answer ≡ due → HasCome stored result due
   come_as due e = subst (HasCome stored result) e (has_come stored result answer is)
@@ -162,16 +151,16 @@ module _ (name : List ℕ) (stored : StoredProgram) (work : Work) (mid : History
       ∙ mounted_name name work.before mid (mount told)
 
   tied_here : IsTrue work.tells → (events : List Event) (database : List Bound) (t : State) → LeavesTied events database (now mid) t →
-      (t.mounted ≡ Some name) × LeavesOnly (IsTied events database (now work.before).said) t
+      (t.mounted ≡ Some name) × LeavesOnly (HasMadePrefix events database (now work.before).said) t
   tied_here told events database t tied = (
     ap (λ (u : State). u.mounted) tied.others ∙ mounted_name name work.before mid (mount told),
     λ log pages log_left pages_left.
-        subst (λ (before : List ℕ). IsTied events database before log pages t.said) (mounted_said name work.before mid (mount told))
+        subst (λ (before : List ℕ). HasMadePrefix events database before log pages t.said) (mounted_said name work.before mid (mount told))
         (tied.left log pages log_left pages_left),
   )
 
   -- before anything was made
-  tied_first : (events : List Event) (database : List Bound) → StandsThere name (now work.before) database → LeavesOnlyAt name (IsTied events database (now work.before).said) (now work.before)
+  tied_first : (events : List Event) (database : List Bound) → StandsThere name (now work.before) database → LeavesOnlyAt name (HasMadePrefix events database (now work.before).said) (now work.before)
   tied_first events database there log pages log_left pages_left = record {
     made = [];
     rest = events;
@@ -181,9 +170,9 @@ module _ (name : List ℕ) (stored : StoredProgram) (work : Work) (mid : History
   }
 
   headline : IsTrue work.tells → (database bound : List Bound) → RunsOver name work stored database bound →
-      EachMoment (LeavesOnlyAt name (IsTied (events_of stored bound (now work.before).input) database (now work.before).said)) work.before work.after
+      EachMoment (LeavesOnlyAt name (HasMadePrefix (events_of stored bound (now work.before).input) database (now work.before).said)) work.before work.after
   headline told database bound over =
-      mounted_then name work.before mid (mount told) (IsTied (events_of stored bound (now work.before).input) database (now work.before).said) work.after
+      mounted_then name work.before mid (mount told) (HasMadePrefix (events_of stored bound (now work.before).input) database (now work.before).said) work.after
       (tied_first (events_of stored bound (now work.before).input) database over.stands_for)
       (moments_weaken (LeavesTied (events_of stored bound (now work.before).input) database (now mid)) _ mid work.after (tied_here told (events_of stored bound (now work.before).input) database)
       (subst (λ (input : List ℕ). EachMoment (LeavesTied (events_of stored bound input) database (now mid)) mid work.after) (same_input told)
@@ -203,11 +192,11 @@ module _ (name : List ℕ) (stored : StoredProgram) (work : Work) (mid : History
   stands_so told database bound over standing has =
       let same = one_read told has.database database (has.stood told) (reads_here told database over.reads) in
       let binds = subst (λ (d : List Bound). Binds stored.relation d has.bound) same has.binds in
-      ap (λ (b : List Bound). (whole stored b (now work.before).input).stands) (one_binding stored.relation database bound has.bound over.binds binds)
+      ap (λ (b : List Bound). (whole stored b (now work.before).input).stands) (binds-one stored.relation database bound has.bound over.binds binds)
       ∙ ap (λ (input : List ℕ). (whole stored has.bound input).stands) (sym (same_input told)) ∙ has.ends
 
   done : IsTrue work.tells → (database bound : List Bound) → ReadsOver name work stored database bound → answer ≡ status.Done →
-      HasRun name work stored database bound Ended
+      HasRunThere name work stored database bound Ended
   done told database bound over e =
       let ok = come_as status.Done e in
       record {
@@ -218,7 +207,7 @@ module _ (name : List ℕ) (stored : StoredProgram) (work : Work) (mid : History
       }
 
   trapped : IsTrue work.tells → (database bound : List Bound) → ReadsOver name work stored database bound → (trap : Trap) →
-      answer ≡ status.Trapped trap.kind trap.place → HasRun name work stored database bound (Trapped trap)
+      answer ≡ status.Trapped trap.kind trap.place → HasRunThere name work stored database bound (Trapped trap)
   trapped told database bound over trap e =
       let err = come_as (status.Trapped trap.kind trap.place) e in
       record {
@@ -230,9 +219,9 @@ module _ (name : List ℕ) (stored : StoredProgram) (work : Work) (mid : History
 
   due : (standing : Standing) → IsDue standing result → IsDueAnswer standing answer ⊎ (answer ≡ status.Memory)
   due Ended (inl ok) = inl (ok_answer stored result answer is ok)
-  due Ended (inr e) = inr (subst (λ r. IsAnswer stored r answer) e is)
-  due (Trapped trap) (inl e) = inl (subst (λ r. IsAnswer stored r answer) e is)
-  due (Trapped trap) (inr e) = inr (subst (λ r. IsAnswer stored r answer) e is)
+  due Ended (inr e) = inr (subst (λ r. TellsOfRun stored r answer) e is)
+  due (Trapped trap) (inl e) = inl (subst (λ r. TellsOfRun stored r answer) e is)
+  due (Trapped trap) (inr e) = inr (subst (λ r. TellsOfRun stored r answer) e is)
   due Going e = absurd e
 
   complete : IsTrue work.tells → (database bound : List Bound) → ReadsOver name work stored database bound →
@@ -253,8 +242,8 @@ module _ (name : List ℕ) (stored : StoredProgram) (work : Work) (mid : History
   not_store told (inr none) = by_result (run.not_store_where told (subst (λ (d : Store). HasHead d.log.now → ⊥) (sym (disk told)) none))
     where
       by_result : (result ≡ Err errors.NotStore) ⊎ (result ≡ Err errors.DiskFault) → IsUnlessUnopened answer status.NotStore
-      by_result (inl e) = inl (subst (λ r. IsAnswer stored r answer) e is)
-      by_result (inr e) = inr (inr (inl (subst (λ r. IsAnswer stored r answer) e is)))
+      by_result (inl e) = inl (subst (λ r. TellsOfRun stored r answer) e is)
+      by_result (inr e) = inr (inr (inl (subst (λ r. TellsOfRun stored r answer) e is)))
 
   damaged_only : IsTrue work.tells → (page : ℕ) → answer ≡ status.Damaged page → (page ≡ 0) × IsDamaged name work
   damaged_only told page e =
@@ -273,11 +262,11 @@ module _ (name : List ℕ) (stored : StoredProgram) (work : Work) (mid : History
       (subst (λ (d : Store). stands d.log.now d.pages.now ≡ None) (sym (disk told)) damage.none))
     where
       by_result : (result ≡ Err (errors.Damaged 0)) ⊎ ((result ≡ Err errors.DiskFault) ⊎ (result ≡ Err errors.Memory)) → IsUnlessUnopened answer (status.Damaged 0)
-      by_result (inl e) = inl (subst (λ r. IsAnswer stored r answer) e is)
-      by_result (inr (inl e)) = inr (inr (inl (subst (λ r. IsAnswer stored r answer) e is)))
-      by_result (inr (inr e)) = inr (inr (inr (subst (λ r. IsAnswer stored r answer) e is)))
+      by_result (inl e) = inl (subst (λ r. TellsOfRun stored r answer) e is)
+      by_result (inr (inl e)) = inr (inr (inl (subst (λ r. TellsOfRun stored r answer) e is)))
+      by_result (inr (inr e)) = inr (inr (inr (subst (λ r. TellsOfRun stored r answer) e is)))
 
-  differs_only : IsTrue work.tells → (other : List ℕ) → answer ≡ status.SchemaDiffers other → (other ≡ stored.relation.name) × HasOther name work stored
+  differs_only : IsTrue work.tells → (other : List ℕ) → answer ≡ status.SchemaDiffers other → (other ≡ stored.relation.name) × HasOtherThere name work stored
   differs_only told other e =
       let err = come_as (status.SchemaDiffers other) e in
       let found = run.differs err.0 in (
@@ -290,7 +279,7 @@ module _ (name : List ℕ) (stored : StoredProgram) (work : Work) (mid : History
         },
       )
 
-  differs : IsTrue work.tells → HasOther name work stored → IsUnlessUnopened answer (status.SchemaDiffers stored.relation.name)
+  differs : IsTrue work.tells → HasOtherThere name work stored → IsUnlessUnopened answer (status.SchemaDiffers stored.relation.name)
   differs told found =
       by_result (run.differs_where told found.database
       (subst (λ (d : Store). stands d.log.now d.pages.now ≡ Some found.database) (sym (disk told)) found.reads) found.differs)
@@ -300,14 +289,14 @@ module _ (name : List ℕ) (stored : StoredProgram) (work : Work) (mid : History
       by_answer (inr e) = inr (inr (inr e))
 
       by_result : (result ≡ Err errors.SchemaDiffers) ⊎ ((result ≡ Err errors.DiskFault) ⊎ (result ≡ Err errors.Memory)) → IsUnlessUnopened answer (status.SchemaDiffers stored.relation.name)
-      by_result (inl e) = by_answer (subst (λ r. IsAnswer stored r answer) e is)
-      by_result (inr (inl e)) = inr (inr (inl (subst (λ r. IsAnswer stored r answer) e is)))
-      by_result (inr (inr e)) = inr (inr (inr (subst (λ r. IsAnswer stored r answer) e is)))
+      by_result (inl e) = by_answer (subst (λ r. TellsOfRun stored r answer) e is)
+      by_result (inr (inl e)) = inr (inr (inl (subst (λ r. TellsOfRun stored r answer) e is)))
+      by_result (inr (inr e)) = inr (inr (inr (subst (λ r. TellsOfRun stored r answer) e is)))
 
   unrun : IsTrue work.tells → IsUnrun answer → EachMoment (LeavesOnlyAt name (IsLeft (store_of (now work.before) name) (now work.before).said)) work.before work.after
   unrun told quiet = left_there name work.before mid (mount told) work.after (refused result answer is quiet (run.refused told))
     where
-      refused : (r : Result (Unit {0}) StopErr) (a : Status) → IsAnswer stored r a → IsUnrun a →
+      refused : (r : Result (Unit {0}) StopErr) (a : Status) → TellsOfRun stored r a → IsUnrun a →
           IfErr r (λ why. IsRefusal why → EachMoment (LeavesOld (now mid)) mid work.after) → EachMoment (LeavesOld (now mid)) mid work.after
       refused (Ok _) a is quiet left = absurd (subst IsUnrun is quiet)
       refused (Err (errors.Trapped trap)) a is quiet left = absurd (subst IsUnrun is quiet)
@@ -335,6 +324,14 @@ module _ (name : List ℕ) (stored : StoredProgram) (work : Work) (mid : History
       (ap (λ (t : State). t.mounted) changes.others) (ap (λ (t : State). t.others) changes.others) changes.pages)
       (run.only told))
 
+  said_well : (answer ≡ status.OutFault) ⊎ (work.counts_after.say_faults ≡ work.counts_before.say_faults)
+  said_well = by_result run.out_fault_where
+    where
+      by_result : (result ≡ Err errors.OutFault) ⊎ (work.counts_after.say_faults ≡ counts_mid.say_faults) →
+          (answer ≡ status.OutFault) ⊎ (work.counts_after.say_faults ≡ work.counts_before.say_faults)
+      by_result (inl e) = inl (subst (λ r. TellsOfRun stored r answer) e is)
+      by_result (inr fine) = inr (fine ∙ say_same)
+
   pub runs_stored : RunsStored name stored work answer
   runs_stored = record {
     answers = run_answer stored result answer (has_come stored result answer is);
@@ -355,6 +352,7 @@ module _ (name : List ℕ) (stored : StoredProgram) (work : Work) (mid : History
     source_fault = λ e. absurd (come_as status.SourceFault e);
     disk_fault = λ e. rose_later _ _ _ disk_later (run.disk_fault (come_as status.DiskFault e));
     out_fault = λ e. subst (λ (n : ℕ). Rose n work.counts_after.say_faults) say_same (run.out_fault (come_as status.OutFault e));
+    out_fault_where = said_well;
   }
 
 -- nothing was noted since before the store was mounted
@@ -411,7 +409,8 @@ still_left name work still told =
     subst (λ (h : History). EachMoment (LeavesOnlyAt name (IsLeft (store_of (now work.before) name) (now work.before).said)) work.before h)
     (sym (still told)) (not_left name work.before)
 
-module _ (name : List ℕ) (stored : StoredProgram) (work : Work) (answer : Status) (still : IsTrue work.tells → work.after ≡ work.before) where
+module _ (name : List ℕ) (stored : StoredProgram) (work : Work) (answer : Status) (still : IsTrue work.tells → work.after ≡ work.before)
+    (unsaid : work.counts_after.say_faults ≡ work.counts_before.say_faults) where
   -- at the one moment that there is
   one_moment : (Q : State → Type 0) → IsTrue work.tells → Q (now work.before) → EachMoment Q work.before work.after
   one_moment Q told holds = subst (λ (h : History). EachMoment Q work.before h) (sym (still told)) (moments_start Q work.before holds)
@@ -424,7 +423,7 @@ module _ (name : List ℕ) (stored : StoredProgram) (work : Work) (answer : Stat
   still_runs why = record {
     answers = still_answer name work answer why;
     headline = λ told database bound over.
-        one_moment (LeavesOnlyAt name (IsTied (events_of stored bound (now work.before).input) database (now work.before).said)) told (λ log pages log_left pages_left. record {
+        one_moment (LeavesOnlyAt name (HasMadePrefix (events_of stored bound (now work.before).input) database (now work.before).said)) told (λ log pages log_left pages_left. record {
           made = [];
           rest = events_of stored bound (now work.before).input;
           prefix = refl;
@@ -447,4 +446,5 @@ module _ (name : List ℕ) (stored : StoredProgram) (work : Work) (answer : Stat
     source_fault = λ e. still_as why status.SourceFault e;
     disk_fault = λ e. (still_as why status.DiskFault e).0;
     out_fault = λ e. absurd (still_as why status.OutFault e);
+    out_fault_where = inr unsaid;
   }

@@ -4,7 +4,7 @@ use Rattle.dbpl_base.specs.declared.limits.TheConstants.{SOURCE_BYTES}
 use Rattle.dbpl_base.specs.declared.place.Place.{Place}
 use Rattle.dbpl_base.specs.declared.status.Status.{Status}
 use Rattle.dbpl_base.specs.declared.status.Status.TheVariants as status
-use Rattle.dbpl_core.specs.declared.stored_program.StoredProgram.{StoredProgram}
+use Rattle.dbpl_stored_program.specs.declared.stored_program.StoredProgram.{StoredProgram}
 use Rattle.dbpl_sources.proofs.Noting.{still_notes}
 use Rattle.dbpl_sources.specs.Sources.{IsAbsent, IsTooLong, IsUnread}
 use Rattle.dbpl_sources.specs.Texts.{HasLongText, HasText, IsUnlessUnread, MayHave}
@@ -14,11 +14,12 @@ use Rattle.dbpl_stored_form.specs.Texts.{IsRefused, IsStored}
 use Rattle.dbpl_stored_modes.proofs.Mounting.{changes_first, rose_later}
 use Rattle.dbpl_stored_modes.proofs.RunLaw.{IsStill, still_left, still_runs}
 use Rattle.dbpl_stored_modes.specs.Leaving.{ChangesOnly}
-use Rattle.dbpl_stored_modes.specs.Reading.{IsNoProgram, IsRefusal, ReadsProgram}
+use Rattle.dbpl_stored_modes.specs.Reading.{IsNoProgram, AreRefused, ReadsProgram}
 use Rattle.dbpl_stored_modes.specs.Runs.{AreNone, IsOfFiles, IsProgramOf, Runs}
 use Rattle.dbpl_stored_modes.specs.StoredRuns.{IsRunAnswer, IsUnrun, RunsStored}
 use Rattle.dbpl_world.proofs.Moments.{moments_start}
 use Rattle.dbpl_world.specs.Counts.{Rose}
+use Rattle.dbpl_world.specs.declared.counts.Counts.{Counts}
 use Rattle.dbpl_world.specs.Files.{Files, file_of}
 use Rattle.dbpl_world.specs.History.{History, now}
 use Rattle.dbpl_world.specs.Moments.{EachMoment}
@@ -112,11 +113,11 @@ unread_later files file before mid after status.SourceFault later unread = rose_
 unread_later files file before mid after status.Memory later unread = unread
 unread_later files file before mid after _ later unread = absurd unread
 
-refusal_not_absent : (schema program name : List ℕ) (answer : Status) → answer ≡ status.Absent name → IsRefusal schema program answer → ⊥
-refusal_not_absent schema program name answer e refusal = subst (IsRefusal schema program) e refusal
+refusal_not_absent : (schema program name : List ℕ) (answer : Status) → answer ≡ status.Absent name → AreRefused schema program answer → ⊥
+refusal_not_absent schema program name answer e refusal = subst (AreRefused schema program) e refusal
 
-refusal_not_long : (schema program name : List ℕ) (answer : Status) → answer ≡ status.TooLong name → IsRefusal schema program answer → ⊥
-refusal_not_long schema program name answer e refusal = subst (IsRefusal schema program) e refusal
+refusal_not_long : (schema program name : List ℕ) (answer : Status) → answer ≡ status.TooLong name → AreRefused schema program answer → ⊥
+refusal_not_long schema program name answer e refusal = subst (AreRefused schema program) e refusal
 
 unread_not_refused : (files : Option Files) (file : List ℕ) (before after : ℕ) (answer : Status) (place : Place) (rule : ℕ) → answer ≡ status.Refused place rule →
     IsUnread files file before after answer → ⊥
@@ -125,20 +126,24 @@ unread_not_refused files file before after answer place rule e unread = subst (I
 -- ---- no program
 
 module _ (store schema program : List ℕ) (work : Work) (answer : Status) (still : work.after ≡ work.before)
+    (uncounted : work.counts_after ≡ work.counts_before)
     (cause : IsNoProgram work.files schema program work.shelf_faults_before work.shelf_faults_after answer) where
   still_told : IsTrue work.tells → work.after ≡ work.before
   still_told told = still
 
+  unsaid : work.counts_after.say_faults ≡ work.counts_before.say_faults
+  unsaid = ap (λ (counts : Counts). counts.say_faults) uncounted
+
   faulty : (stored : StoredProgram) → ((answer ≡ status.SourceFault) × Rose work.shelf_faults_before work.shelf_faults_after) ⊎ (answer ≡ status.Memory) →
       RunsStored store stored work answer
-  faulty stored (inl fault) = still_runs store stored work answer still_told (subst (IsStill store work) (sym fault.0) fault.1)
-  faulty stored (inr memory) = still_runs store stored work answer still_told (subst (IsStill store work) (sym memory) tt)
+  faulty stored (inl fault) = still_runs store stored work answer still_told unsaid (subst (IsStill store work) (sym fault.0) fault.1)
+  faulty stored (inr memory) = still_runs store stored work answer still_told unsaid (subst (IsStill store work) (sym memory) tt)
 
   runs : (stored : StoredProgram) → IsProgramOf work.files schema program stored → RunsStored store stored work answer
   runs stored of = by_cause cause
     where
       -- texts that are a program aren't refused
-      by_refusal : (schema_text program_text : List ℕ) (a : Status) → answer ≡ a → IsStored schema_text program_text stored → IsRefusal schema_text program_text a →
+      by_refusal : (schema_text program_text : List ℕ) (a : Status) → answer ≡ a → IsStored schema_text program_text stored → AreRefused schema_text program_text a →
           RunsStored store stored work answer
       by_refusal schema_text program_text (status.Refused place rule) e is refusal = absurd (program_or_refusal schema_text program_text stored place rule is refusal)
       by_refusal schema_text program_text status.Memory e is refusal = faulty stored (inr e)
@@ -203,10 +208,10 @@ module _ (store schema program : List ℕ) (work : Work) (answer : Status) (stil
 
   -- the refusal of these texts
   module _ (schema_text program_text : List ℕ) (schema_has : HasText work.files schema schema_text) (program_has : HasText work.files program program_text) where
-    here : (one other : List ℕ) (a : Status) → MayHave work.files schema one → MayHave work.files program other → IsRefusal one other a → IsRefusal schema_text program_text a
+    here : (one other : List ℕ) (a : Status) → MayHave work.files schema one → MayHave work.files program other → AreRefused one other a → AreRefused schema_text program_text a
     here one other a first second refusal =
-        subst (λ (t : List ℕ). IsRefusal schema_text t a) (same_text work.files program program_text other program_has.told second.told)
-        (subst (λ (t : List ℕ). IsRefusal t other a) (same_text work.files schema schema_text one schema_has.told first.told) refusal)
+        subst (λ (t : List ℕ). AreRefused schema_text t a) (same_text work.files program program_text other program_has.told second.told)
+        (subst (λ (t : List ℕ). AreRefused t other a) (same_text work.files schema schema_text one schema_has.told first.told) refusal)
 
     pub refused_only : (place : Place) (rule : ℕ) → answer ≡ status.Refused place rule → IsRefused schema_text program_text place rule
     refused_only place rule e = by_cause cause
@@ -214,9 +219,9 @@ module _ (store schema program : List ℕ) (work : Work) (answer : Status) (stil
         by_cause : IsNoProgram work.files schema program work.shelf_faults_before work.shelf_faults_after answer → IsRefused schema_text program_text place rule
         by_cause (inl unread) = absurd (unread_not_refused work.files schema _ _ answer place rule e unread)
         by_cause (inr (inl unread)) = absurd (unread_not_refused work.files program _ _ answer place rule e unread.2)
-        by_cause (inr (inr refusal)) = subst (IsRefusal schema_text program_text) e (here refusal.0 refusal.1 answer refusal.2 refusal.3 refusal.4)
+        by_cause (inr (inr refusal)) = subst (AreRefused schema_text program_text) e (here refusal.0 refusal.1 answer refusal.2 refusal.3 refusal.4)
 
-    refusal_of : (a : Status) → IsRefusal schema_text program_text a →
+    refusal_of : (a : Status) → AreRefused schema_text program_text a →
         ((place : Place) × (rule : ℕ) × (a ≡ status.Refused place rule) × IsRefused schema_text program_text place rule) ⊎ ((a ≡ status.SourceFault) ⊎ (a ≡ status.Memory))
     refusal_of (status.Refused place rule) refusal = inl (place, rule, refl, refusal)
     refusal_of status.Memory refusal = inr (inr refl)
@@ -244,16 +249,16 @@ module _ (store schema program : List ℕ) (work : Work) (answer : Status) (stil
       by_cause : IsNoProgram work.files schema program work.shelf_faults_before work.shelf_faults_after answer → Rose work.shelf_faults_before work.shelf_faults_after
       by_cause (inl unread) = subst (IsUnread work.files schema work.shelf_faults_before work.shelf_faults_after) e unread
       by_cause (inr (inl unread)) = subst (IsUnread work.files program work.shelf_faults_before work.shelf_faults_after) e unread.2
-      by_cause (inr (inr refusal)) = absurd (subst (IsRefusal refusal.0 refusal.1) e refusal.4)
+      by_cause (inr (inr refusal)) = absurd (subst (AreRefused refusal.0 refusal.1) e refusal.4)
 
   no_cause : (due : Status) → ((file : List ℕ) → IsUnread work.files file work.shelf_faults_before work.shelf_faults_after due → ⊥) →
-      ((first second : List ℕ) → IsRefusal first second due → ⊥) → answer ≡ due → ⊥
+      ((first second : List ℕ) → AreRefused first second due → ⊥) → answer ≡ due → ⊥
   no_cause due unread_never refused_never e = by_cause cause
     where
       by_cause : IsNoProgram work.files schema program work.shelf_faults_before work.shelf_faults_after answer → ⊥
       by_cause (inl unread) = unread_never schema (subst (IsUnread work.files schema work.shelf_faults_before work.shelf_faults_after) e unread)
       by_cause (inr (inl unread)) = unread_never program (subst (IsUnread work.files program work.shelf_faults_before work.shelf_faults_after) e unread.2)
-      by_cause (inr (inr refusal)) = refused_never refusal.0 refusal.1 (subst (IsRefusal refusal.0 refusal.1) e refusal.4)
+      by_cause (inr (inr refusal)) = refused_never refusal.0 refusal.1 (subst (AreRefused refusal.0 refusal.1) e refusal.4)
 
   pub unread_runs : Runs store schema program work answer
   unread_runs = record {
@@ -274,6 +279,7 @@ module _ (store schema program : List ℕ) (work : Work) (answer : Status) (stil
     source_fault = source_fault;
     disk_fault = λ e. absurd (no_cause status.DiskFault (λ file unread. unread) (λ first second refusal. refusal) e);
     out_fault = λ e. absurd (no_cause status.OutFault (λ file unread. unread) (λ first second refusal. refusal) e);
+    out_fault_where = inr unsaid;
   }
 
 -- ---- a program
@@ -320,4 +326,5 @@ module _ (store schema program : List ℕ) (work : Work) (answer : Status) (read
     source_fault = ran.source_fault;
     disk_fault = ran.disk_fault;
     out_fault = ran.out_fault;
+    out_fault_where = ran.out_fault_where;
   }

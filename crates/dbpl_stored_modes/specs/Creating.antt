@@ -6,7 +6,7 @@ use Rattle.dbpl_log.specs.Beginning.{IsForeign, IsFree, begun}
 use Rattle.dbpl_log.specs.Records.{HasHead}
 use Rattle.dbpl_log.specs.declared.create_err.CreateErr.{CreateErr}
 use Rattle.dbpl_log.specs.declared.create_err.CreateErr.TheVariants as errors
-use Rattle.dbpl_store.specs.Beginning.{MayBegin}
+use Rattle.dbpl_store.specs.Beginning.{MayBecomeEmpty}
 use Rattle.dbpl_store.specs.Stands.{stands}
 use Rattle.dbpl_stored_modes.specs.Images.{EachImage, IsLeft, StandsThere}
 use Rattle.dbpl_stored_modes.specs.Leaving.{ChangesOnly}
@@ -16,8 +16,8 @@ use Rattle.dbpl_world.specs.History.{now, store_of}
 use Rattle.dbpl_world.specs.Moments.{EachMoment, LeavesOnlyAt}
 
 -- No store yet, and one may still be made, or the empty one; and nothing was said.
-pub record IsBegun (before log pages said : List ℕ) : Type 0 where
-  pub stage : MayBegin log pages ⊎ (stands log pages ≡ Some [])
+pub record IsBeingMade (before log pages said : List ℕ) : Type 0 where
+  pub stage : MayBecomeEmpty log pages ⊎ (stands log pages ≡ Some [])
   pub said_is : said ≡ before
 
 -- the answer where making a store went so
@@ -44,8 +44,8 @@ IsUnlessFault answer due = (answer ≡ due) ⊎ ((answer ≡ status.DiskFault) �
 pub record Creates (store : List ℕ) (work : Work) (answer : Status) : Type 0 where
   pub answers : IsCreateAnswer answer
   -- At each moment no store is there, and one may still be made, or the empty one is there.
-  pub moments : IsTrue work.tells → EachImage store (now work.before) MayBegin →
-      EachMoment (LeavesOnlyAt store (IsBegun (now work.before).said)) work.before work.after
+  pub moments : IsTrue work.tells → EachImage store (now work.before) MayBecomeEmpty →
+      EachMoment (LeavesOnlyAt store (IsBeingMade (now work.before).said)) work.before work.after
   -- After Done the empty one is there, with the bytes of its head, and there was none before.
   pub made : IsTrue work.tells → answer ≡ status.Done → StandsThere store (now work.after) []
   pub bytes : IsTrue work.tells → answer ≡ status.Done →

@@ -2,7 +2,7 @@
 use Rattle.std.specs.Prelude.{◌⊎◌, ℕ, List, Option}
 use Rattle.dbpl_base.specs.declared.status.Status.{Status}
 use Rattle.dbpl_base.specs.declared.status.Status.TheVariants as status
-use Rattle.dbpl_core.specs.declared.stored_program.StoredProgram.{StoredProgram}
+use Rattle.dbpl_stored_program.specs.declared.stored_program.StoredProgram.{StoredProgram}
 use Rattle.dbpl_sources.specs.Sources.{IsUnread}
 use Rattle.dbpl_sources.specs.Texts.{MayHave}
 use Rattle.dbpl_stored_form.specs.Texts.{IsRefused, IsStored}
@@ -17,10 +17,10 @@ pub record ReadsProgram (files : Option Files) (schema program : List ℕ) (stor
   pub is : IsStored schema_text program_text stored
 
 -- why two texts are no such program, by cases on the answer
-abbrev pub IsRefusal : List ℕ → List ℕ → Status → Type 0
-IsRefusal schema program (status.Refused place rule) = IsRefused schema program place rule
-IsRefusal schema program status.Memory = Unit {0}
-IsRefusal schema program _ = ⊥
+abbrev pub AreRefused : List ℕ → List ℕ → Status → Type 0
+AreRefused schema program (status.Refused place rule) = IsRefused schema program place rule
+AreRefused schema program status.Memory = Unit {0}
+AreRefused schema program _ = ⊥
 
 -- why there is no program: the first file isn't read, or the second isn't, or their texts are refused
 abbrev pub IsNoProgram : Option Files → List ℕ → List ℕ → ℕ → ℕ → Status → Type 0
@@ -28,4 +28,4 @@ IsNoProgram files schema program faults_before faults_after answer =
     IsUnread files schema faults_before faults_after answer
     ⊎ (((text : List ℕ) × MayHave files schema text × IsUnread files program faults_before faults_after answer)
     ⊎ ((schema_text program_text : List ℕ) × MayHave files schema schema_text × MayHave files program program_text
-    × IsRefusal schema_text program_text answer))
+    × AreRefused schema_text program_text answer))

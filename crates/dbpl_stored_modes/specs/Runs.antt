@@ -3,7 +3,7 @@ use Rattle.std.specs.Prelude.{◌≡◌, ◌⊎◌, ℕ, IsTrue, List, Option}
 use Rattle.dbpl_base.specs.declared.place.Place.{Place}
 use Rattle.dbpl_base.specs.declared.status.Status.{Status}
 use Rattle.dbpl_base.specs.declared.status.Status.TheVariants as status
-use Rattle.dbpl_core.specs.declared.stored_program.StoredProgram.{StoredProgram}
+use Rattle.dbpl_stored_program.specs.declared.stored_program.StoredProgram.{StoredProgram}
 use Rattle.dbpl_sources.specs.Sources.{IsAbsent, IsTooLong}
 use Rattle.dbpl_sources.specs.Texts.{HasLongText, HasText, IsMissing, IsUnlessUnread}
 use Rattle.dbpl_sources.specs.Work.{OnlyNotes, Work}
@@ -63,8 +63,10 @@ pub record Runs (store schema program : List ℕ) (work : Work) (answer : Status
   -- Then nothing was said, and the store is as it was.
   pub unread : IsTrue work.tells → IsOfFiles answer →
       EachMoment (LeavesOnlyAt store (IsLeft (store_of (now work.before) store) (now work.before).said)) work.before work.after
-  -- Nothing but this store and the bytes said changes, and faults come with their counts.
+  -- Nothing but this store and the bytes said changes, faults come with their counts, and a print that failed is always
+  -- the answer.
   pub only : IsTrue work.tells → EachMoment (ChangesOnly store (now work.before)) work.before work.after
   pub source_fault : answer ≡ status.SourceFault → Rose work.shelf_faults_before work.shelf_faults_after
   pub disk_fault : answer ≡ status.DiskFault → Rose work.counts_before.disk_faults work.counts_after.disk_faults
   pub out_fault : answer ≡ status.OutFault → Rose work.counts_before.say_faults work.counts_after.say_faults
+  pub out_fault_where : (answer ≡ status.OutFault) ⊎ (work.counts_after.say_faults ≡ work.counts_before.say_faults)

@@ -1,18 +1,19 @@
 //! The command that runs two files over a store.
 ghost use Rattle.std.specs.Prelude.{◌≡◌, ◌≤◌, length, IfErr, IfOk, IsTrue};
-ghost use Rattle.dbpl_core.specs.Programs.{is_small_program};
+ghost use Rattle.dbpl_stored_program.specs.Programs.{is_small_program};
 ghost use Rattle.dbpl_stored_form.specs.Texts.{IsStored};
-ghost use Rattle.dbpl_stored_modes.specs.Reading.{IsNoProgram, IsRefusal, ReadsProgram};
+ghost use Rattle.dbpl_stored_modes.specs.Reading.{IsNoProgram, AreRefused, ReadsProgram};
 ghost use Rattle.dbpl_stored_modes.specs.Runs.{Runs};
 ghost use Rattle.dbpl_stored_run.specs.Leaving.{OnlyRunFaults};
 ghost use Rattle.dbpl_world.specs.History.{now};
 
 use crate::running::run_over;
-use dbpl_base::{SOURCE_BYTES, Status};
-use dbpl_core::StoredProgram;
+use dbpl_base::Status;
+use dbpl_base::limits::SOURCE_BYTES;
 use dbpl_front::FrontErr;
 use dbpl_sources::source;
 use dbpl_stored_form::read_stored;
+use dbpl_stored_program::StoredProgram;
 use dbpl_world::{Shelf, World};
 use std::alloc::Global;
 
@@ -76,7 +77,7 @@ fn program_of(alloc: Global, schema: &[u8], program: &[u8]) -> Result<StoredProg
     requires program { length program.now ≤ SOURCE_BYTES }
     ensures found { IfOk result (λ stored. IsStored schema.now program.now stored) }
     ensures small { IfOk result (λ stored. IsTrue (is_small_program stored)) }
-    ensures err { IfErr result (λ status. IsRefusal schema.now program.now status) }
+    ensures err { IfErr result (λ status. AreRefused schema.now program.now status) }
 {
     match read_stored(alloc, schema, program) {
         Ok(stored) => Ok(stored),

@@ -1,13 +1,13 @@
 //! A run of a program over the store of a name.
 ghost use Rattle.std.specs.Prelude.{◌≡◌, ℕ, IsTrue, Option};
-ghost use Rattle.dbpl_core.specs.Programs.{is_small_program};
-ghost use Rattle.dbpl_stored_modes.specs.StoredRuns.{IsAnswer, RunsStored};
+ghost use Rattle.dbpl_stored_program.specs.Programs.{is_small_program};
+ghost use Rattle.dbpl_stored_modes.specs.StoredRuns.{TellsOfRun, RunsStored};
 ghost use Rattle.dbpl_stored_run.specs.Leaving.{OnlyRunFaults};
 ghost use Rattle.dbpl_world.specs.Files.{Files};
 ghost use Rattle.dbpl_world.specs.History.{now};
 
 use dbpl_base::Status;
-use dbpl_core::StoredProgram;
+use dbpl_stored_program::StoredProgram;
 use dbpl_stored_run::{StopErr, run_stored};
 use dbpl_world::{MountErr, World};
 use std::alloc::Global;
@@ -47,7 +47,7 @@ pub fn run_over<W: World>(
 
 /// The answer where a run went so. The name of the relation variable wants memory.
 fn status_of(alloc: Global, program: &StoredProgram, ran: Result<(), StopErr>) -> Status
-    ensures { IsAnswer program.now ran result }
+    ensures { TellsOfRun program.now ran result }
 {
     match ran {
         Ok(()) => Status::Done,

@@ -3,10 +3,10 @@ use Rattle.std.proofs.Common.{◌≡◌, ◌∙◌, ℕ, List, [], ◌∷◌, Re
 use Rattle.std.specs.Prelude.{OnOk}
 use Rattle.dbpl_core.proofs.Events.{last-outs}
 use Rattle.dbpl_core.specs.Events.{Event, Out, last}
-use Rattle.dbpl_core.specs.Meaning.{Ended, before_zero}
-use Rattle.dbpl_core.specs.declared.action.Action.{Action}
-use Rattle.dbpl_core.specs.declared.action.Action.TheVariants.{WriteLn, WriteString}
-use Rattle.dbpl_core.specs.declared.stored_program.StoredProgram.{StoredProgram}
+use Rattle.dbpl_stored_program.specs.Meaning.{Ended, before_zero}
+use Rattle.dbpl_stored_program.specs.declared.action.Action.{Action}
+use Rattle.dbpl_stored_program.specs.declared.action.Action.TheVariants.{WriteLn, WriteString}
+use Rattle.dbpl_stored_program.specs.declared.stored_program.StoredProgram.{StoredProgram}
 use Rattle.dbpl_store.specs.Stores.{IsOpen, committed_of, database_in}
 use Rattle.dbpl_store.specs.declared.store.Store.{Store}
 use Rattle.dbpl_stored_run.proofs.Steps.{written-events}

@@ -2,10 +2,10 @@
 use Rattle.std.proofs.Common.{◌≡◌, ◌∙◌, ◌⊎◌, ℕ, inl, inr, List, Result, Ok, Err, ap, arith, refl, subst, sym}
 use Rattle.std.specs.Prelude.{IfErr, IsErrAnd, OnErr, OnOk}
 use Rattle.std.proofs.lemmas.Result.{err_from_is_err_and}
-use Rattle.dbpl_core.proofs.Turns.{comes_to_end}
-use Rattle.dbpl_core.specs.Meaning.{Ended, Going, Standing, Trapped}
-use Rattle.dbpl_core.specs.Whole.{whole}
-use Rattle.dbpl_core.specs.declared.stored_program.StoredProgram.{StoredProgram}
+use Rattle.dbpl_stored_program.proofs.Turns.{comes_to_end}
+use Rattle.dbpl_stored_program.specs.Meaning.{Ended, Going, Standing, Trapped}
+use Rattle.dbpl_stored_program.specs.Whole.{whole}
+use Rattle.dbpl_stored_program.specs.declared.stored_program.StoredProgram.{StoredProgram}
 use Rattle.dbpl_core.specs.declared.trap.Trap.{Trap}
 use Rattle.dbpl_store.specs.declared.store_err.StoreErr.{StoreErr}
 use Rattle.dbpl_store.specs.declared.store_err.StoreErr.TheVariants as store_errors
@@ -232,7 +232,7 @@ unrefused {T = T} A answer why is =
 -- ---- a print that failed
 
 module _ {T : Type 0} (answer : Result T BodyErr) (failed : IfErr answer (λ why. why ≡ body_errors.OutFault)) where
-  printed-why : (why : BodyErr) → answer ≡ Err why → why ≡ body_errors.OutFault
+  pub printed-why : (why : BodyErr) → answer ≡ Err why → why ≡ body_errors.OutFault
   printed-why why is = subst (λ (a : Result T BodyErr). IfErr a (λ w. w ≡ body_errors.OutFault)) is failed
 
   pub printed-no_trap : {A : Type 0} (trap : Trap) → answer ≡ Err (body_errors.Trapped trap) → A
@@ -245,6 +245,10 @@ module _ {T : Type 0} (answer : Result T BodyErr) (failed : IfErr answer (λ why
 pub after-ok : {T E A : Type 0} (answer : Result T E) → A → OnOk answer A
 after-ok (Ok value) holds = holds
 after-ok (Err why) holds = tt
+
+pub both-ok : {T E A B C : Type 0} (answer : Result T E) → OnOk answer A → OnOk answer B → (A → B → C) → OnOk answer C
+both-ok (Ok value) first second join = join first second
+both-ok (Err why) first second join = tt
 
 pub on-this : {T E A : Type 0} (answer : Result T E) (why : E) → OnErr answer A → answer ≡ Err why → A
 on-this {T = T} {E = E} {A = A} answer why holds is = subst (λ (a : Result T E). OnErr a A) is holds

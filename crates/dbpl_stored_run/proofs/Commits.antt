@@ -1,12 +1,12 @@
 -- A transaction that was done in memory, and its commit.
 use Rattle.std.proofs.Common.{◌≡◌, ◌∙◌, List, [], ◌∷◌, Result, Ok, Err, Some, ap, append-nil, subst, sym}
 use Rattle.dbpl_core.specs.Events.{Commit, Event, last}
-use Rattle.dbpl_core.specs.Meaning.{Ended, with_named}
-use Rattle.dbpl_core.specs.Whole.{transacted_by}
-use Rattle.dbpl_core.specs.declared.action.Action.TheVariants.{Transact}
-use Rattle.dbpl_core.specs.declared.run_err.RunErr.{RunErr}
-use Rattle.dbpl_core.specs.declared.run_err.RunErr.TheVariants as run_errors
-use Rattle.dbpl_core.specs.declared.stored_program.StoredProgram.{StoredProgram}
+use Rattle.dbpl_stored_program.specs.Meaning.{Ended, with_named}
+use Rattle.dbpl_stored_program.specs.Whole.{transacted_by}
+use Rattle.dbpl_stored_program.specs.declared.action.Action.TheVariants.{Transact}
+use Rattle.dbpl_stored_program.specs.declared.run_err.RunErr.{RunErr}
+use Rattle.dbpl_stored_program.specs.declared.run_err.RunErr.TheVariants as run_errors
+use Rattle.dbpl_stored_program.specs.declared.stored_program.StoredProgram.{StoredProgram}
 use Rattle.dbpl_core.specs.declared.trap.Trap.{Trap}
 use Rattle.dbpl_store.specs.Stands.{IsEither, LeavesDatabase}
 use Rattle.dbpl_store.specs.Stores.{IsOpen, committed_of, database_in}

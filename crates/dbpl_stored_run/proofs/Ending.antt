@@ -1,18 +1,19 @@
 -- A run from the opening of the store to its end.
 use Rattle.std.proofs.Common.{◌≡◌, ◌∙◌, Bool, List, [], ◌++◌, None, IsTrue, true, false, ap, append-nil, subst, sym}
 use Rattle.std.specs.Prelude.{MatchBool}
-use Rattle.dbpl_core.proofs.Databases.{bound-is_there}
-use Rattle.dbpl_core.proofs.Statements.{whole-comes_to}
+use Rattle.dbpl_stored_program.proofs.Databases.{bound-is_there}
+use Rattle.dbpl_stored_program.proofs.Statements.{whole-comes_to}
 use Rattle.dbpl_core.specs.Events.{Event}
-use Rattle.dbpl_core.specs.Meaning.{Outcome, Standing}
-use Rattle.dbpl_core.specs.Whole.{comes_to, events_of, whole}
-use Rattle.dbpl_core.specs.declared.stored_program.StoredProgram.{StoredProgram}
-use Rattle.dbpl_database.specs.Binding.{Binds, Differs}
+use Rattle.dbpl_stored_program.specs.Meaning.{Outcome, Standing}
+use Rattle.dbpl_stored_program.specs.Whole.{comes_to, events_of, whole}
+use Rattle.dbpl_stored_program.specs.declared.stored_program.StoredProgram.{StoredProgram}
+use Rattle.dbpl_value.specs.Binding.{Binds, Differs}
 use Rattle.dbpl_log.specs.Records.{HasHead}
 use Rattle.dbpl_store.specs.Stands.{LeavesOld, stands}
 use Rattle.dbpl_store.specs.Stores.{IsBoundTo, IsOpen, committed_of, database_in}
 use Rattle.dbpl_store.specs.declared.store.Store.{Store}
-use Rattle.dbpl_stored_run.proofs.Bindings.{binds-one, not-both, stands-head, stands-one}
+use Rattle.dbpl_stored_run.proofs.Bindings.{stands-head, stands-one}
+use Rattle.dbpl_value.proofs.BoundTo.{binds-one, differs-not_binds}
 use Rattle.dbpl_stored_run.proofs.Tying.{made-behind, moments-behind, tied-still}
 use Rattle.dbpl_stored_run.specs.Answers.{HasOther, HasRun, ReadsAs}
 use Rattle.dbpl_stored_run.specs.Headline.{HasMade, LeavesTied, StandsFor}
@@ -46,13 +47,13 @@ pub record HasBegun (program : StoredProgram) (tells : Bool) (store : Store) (h0
   pub moments : IsTrue tells → EachMoment (LeavesOld (now h0)) h0 h1
 
 -- what was opened and then bound
-pub begun :
+pub bound-begun :
     (program : StoredProgram) (tells : Bool) (opened bound : Store) (h0 h1 : History) →
     (IsTrue tells → ReadsAs (committed_of opened) (now h0)) → database_in opened ≡ committed_of opened →
     committed_of bound ≡ committed_of opened → Binds program.relation (database_in opened) (database_in bound) →
     (IsTrue tells → IsOpen (now h1) bound) → (IsTrue tells → EachMoment (LeavesOld (now h0)) h0 h1) →
     HasBegun program tells bound h0 h1
-begun program tells opened bound h0 h1 stood database committed binds stays moments = record {
+bound-begun program tells opened bound h0 h1 stood database committed binds stays moments = record {
   stood = λ told. subst (λ (d : List Bound). ReadsAs d (now h0)) (sym committed) (stood told);
   binds = subst (λ (d : List Bound). Binds program.relation d (database_in bound)) (database ∙ sym committed) binds;
   opened = stays;
@@ -154,7 +155,7 @@ module _ (program : StoredProgram) (tells : Bool) (store : Store) (h0 h1 : Histo
 
   pub begun-agrees : (told : IsTrue tells) (database : List Bound) → ReadsAs database (now h0) → Differs program.relation database → ⊥
   begun-agrees told database reads differs =
-      not-both program.relation database (database_in store) differs
+      differs-not_binds program.relation database (database_in store) differs
       (subst (λ (d : List Bound). Binds program.relation d (database_in store)) (committed-is told database reads) begins.binds)
 
 -- ---- what the store stands for
@@ -166,8 +167,8 @@ reads-of database s image stood = stood s.disk.log.now s.disk.pages.now image.di
 pub reads-head : (database : List Bound) (s : State) → ReadsAs database s → HasHead s.disk.log.now
 reads-head database s reads = stands-head s.disk.log.now s.disk.pages.now database reads
 
-pub reads-sound : {A : Type 0} (database : List Bound) (s : State) → ReadsAs database s → stands s.disk.log.now s.disk.pages.now ≡ None → A
-reads-sound database s reads none = absurd (let both = sym reads ∙ none in cc)
+pub reads-undamaged : {A : Type 0} (database : List Bound) (s : State) → ReadsAs database s → stands s.disk.log.now s.disk.pages.now ≡ None → A
+reads-undamaged database s reads none = absurd (let both = sym reads ∙ none in cc)
 
 -- ---- a variable with another type
 
@@ -199,5 +200,5 @@ module _ (field : Field) (opened bound : Store) (is_bound : Bool) (s : State)
   other-unbound not same read database after reads there =
       let one : database_in opened ≡ database =
       same ∙ stands-one s.disk.log.now s.disk.pages.now (committed_of opened) database read reads in
-      absurd (not-both field (database_in opened) after (matched-false not)
+      absurd (differs-not_binds field (database_in opened) after (matched-false not)
       (subst (λ (d : List Bound). Binds field d after) (sym one) there))

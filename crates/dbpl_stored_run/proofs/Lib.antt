@@ -8,3 +8,4 @@ pub mod Saying
 pub mod Steps
 pub mod Stores
 pub mod Tying
+pub mod WrittenOut

@@ -4,10 +4,10 @@ use Rattle.std.proofs.Math.Seq.{drop-cons}
 use Rattle.std.proofs.lemmas.List.{drop_all}
 use Rattle.dbpl_core.proofs.Events.{last-append}
 use Rattle.dbpl_core.specs.Events.{Event, last, prints}
-use Rattle.dbpl_core.specs.Meaning.{Ended, Outcome, Trapped}
-use Rattle.dbpl_core.specs.Whole.{after_events, comes_to}
-use Rattle.dbpl_core.specs.declared.action.Action.{Action}
-use Rattle.dbpl_core.specs.declared.stored_program.StoredProgram.{StoredProgram}
+use Rattle.dbpl_stored_program.specs.Meaning.{Ended, Outcome, Trapped}
+use Rattle.dbpl_stored_program.specs.Whole.{after_events, comes_to}
+use Rattle.dbpl_stored_program.specs.declared.action.Action.{Action}
+use Rattle.dbpl_stored_program.specs.declared.stored_program.StoredProgram.{StoredProgram}
 use Rattle.dbpl_core.specs.declared.trap.Trap.{Trap}
 use Rattle.dbpl_store.specs.Stores.{IsOpen, committed_of, database_in}
 use Rattle.dbpl_store.specs.declared.store.Store.{Store}

@@ -2,11 +2,11 @@
 use Rattle.std.proofs.Common.{◌≡◌, ◌∙◌, ℕ, List, [], ◌∷◌, ◌++◌, Result, Ok, Err, ap, append-nil, map, refl, sym}
 use Rattle.dbpl_core.proofs.Events.{last-outs}
 use Rattle.dbpl_core.specs.Events.{Commit, Event, Out, last}
-use Rattle.dbpl_core.specs.Meaning.{Ended, Outcome, Trapped, before_zero, with_named}
-use Rattle.dbpl_core.specs.Whole.{after_events, by_transaction, comes_to, transacted_by}
-use Rattle.dbpl_core.specs.declared.action.Action.{Action}
-use Rattle.dbpl_core.specs.declared.action.Action.TheVariants.{Transact, WriteLn, WriteString}
-use Rattle.dbpl_core.specs.declared.stored_program.StoredProgram.{StoredProgram}
+use Rattle.dbpl_stored_program.specs.Meaning.{Ended, Outcome, Trapped, before_zero, with_named}
+use Rattle.dbpl_stored_program.specs.Whole.{after_events, by_transaction, comes_to, transacted_by}
+use Rattle.dbpl_stored_program.specs.declared.action.Action.{Action}
+use Rattle.dbpl_stored_program.specs.declared.action.Action.TheVariants.{Transact, WriteLn, WriteString}
+use Rattle.dbpl_stored_program.specs.declared.stored_program.StoredProgram.{StoredProgram}
 use Rattle.dbpl_core.specs.declared.trap.Trap.{Trap}
 use Rattle.dbpl_stored_run.specs.Statements.{events_by, standing_by}
 use Rattle.dbpl_value.specs.declared.bound.Bound.{Bound}

@@ -4,14 +4,14 @@ use Rattle.std.specs.Cmp.{second_so}
 use Rattle.std.specs.List.{list_all}
 use Rattle.std.specs.Option.{option_and_then, option_map, option_map_or}
 use Rattle.std.specs.Prelude.{IfSome, IsSome}
-use Rattle.dbpl_core.proofs.Databases.{named-at, relation_named-is, with_relation-at}
-use Rattle.dbpl_core.specs.Insertions.{inserted_all}
-use Rattle.dbpl_core.specs.Meaning.{relation_named, with_named}
-use Rattle.dbpl_core.specs.Whole.{transacted_by}
-use Rattle.dbpl_core.specs.declared.stored_program.StoredProgram.{StoredProgram}
+use Rattle.dbpl_stored_program.proofs.Databases.{named-at, relation_named-is, with_relation-at}
+use Rattle.dbpl_stored_program.specs.Insertions.{inserted_all}
+use Rattle.dbpl_stored_program.specs.Meaning.{relation_named, with_named}
+use Rattle.dbpl_stored_program.specs.Whole.{transacted_by}
+use Rattle.dbpl_stored_program.specs.declared.stored_program.StoredProgram.{StoredProgram}
 use Rattle.dbpl_core.specs.declared.trap.Trap.{Trap}
-use Rattle.dbpl_database.specs.Binding.{bound_named, holding, with_relation}
-use Rattle.dbpl_database.specs.Databases.{are_small, is_bound, is_database, names_rise}
+use Rattle.dbpl_value.specs.Binding.{bound_named, holding, with_relation}
+use Rattle.dbpl_value.specs.Databases.{are_small, is_bound, is_database, names_rise}
 use Rattle.dbpl_log.specs.Records.{records_of}
 use Rattle.dbpl_log.specs.Rest.{IsAtRest}
 use Rattle.dbpl_log.specs.declared.log.Log.{Log}

@@ -4,7 +4,7 @@ use Rattle.dbpl_core.proofs.Events.{last-append, prints-append}
 use Rattle.dbpl_core.specs.Events.{Commit, Event, last, prints}
 use Rattle.dbpl_log.specs.Changes.{ChangesLog, IsSynced, OnlySyncs}
 use Rattle.dbpl_store.specs.Stands.{IsEither, LeavesDatabase, LeavesOld, stands}
-use Rattle.dbpl_stored_run.specs.Headline.{HasMade, IsTied, LeavesTied, StandsFor}
+use Rattle.dbpl_stored_run.specs.Headline.{HasMade, HasMadePrefix, LeavesTied, StandsFor}
 use Rattle.dbpl_stored_run.specs.Leaving.{ChangesStore}
 use Rattle.dbpl_value.specs.declared.bound.Bound.{Bound}
 use Rattle.dbpl_world.proofs.Moments.{moments_last, moments_start, moments_then, moments_weaken}
@@ -17,7 +17,7 @@ use Rattle.dbpl_world.specs.Moments.{EachMoment}
 -- what is tied to a front of a list is tied to the list
 tied-front :
     (first second : List Event) (database : List Bound) (before log pages said : List ℕ) →
-    IsTied first database before log pages said → IsTied (first ++ second) database before log pages said
+    HasMadePrefix first database before log pages said → HasMadePrefix (first ++ second) database before log pages said
 tied-front first second database before log pages said tied = record {
   made = tied.made;
   rest = tied.rest ++ second;
@@ -29,8 +29,8 @@ tied-front first second database before log pages said tied = record {
 -- what is tied to a second list, behind the first that was made, is tied to both
 tied-behind :
     (first second : List Event) (database : List Bound) (before between log pages said : List ℕ) →
-    between ≡ before ++ prints first → IsTied second (last first database) between log pages said →
-    IsTied (first ++ second) database before log pages said
+    between ≡ before ++ prints first → HasMadePrefix second (last first database) between log pages said →
+    HasMadePrefix (first ++ second) database before log pages said
 tied-behind first second database before between log pages said came tied = record {
   made = first ++ tied.made;
   rest = tied.rest;
@@ -135,7 +135,7 @@ tied-commit database next old s leaves = record {
     unsaid : s.said ≡ old.said ++ []
     unsaid = ap (λ (t : State). t.said) leaves.others ∙ sym (append-nil old.said)
 
-    by_stood : (log pages : List ℕ) → IsEither database next (stands log pages) → IsTied (Commit next ∷ []) database old.said log pages s.said
+    by_stood : (log pages : List ℕ) → IsEither database next (stands log pages) → HasMadePrefix (Commit next ∷ []) database old.said log pages s.said
     by_stood log pages (inl before) =
         record { made = []; rest = Commit next ∷ []; prefix = refl; printed = unsaid; stored = before }
     by_stood log pages (inr after) =

@@ -1,9 +1,9 @@
 -- Why each answer of a run comes.
 use Rattle.std.specs.Prelude.{◌≡◌, ◌⊎◌, Bool, Err, IsOk, IsTrue, List, Result, Some}
-use Rattle.dbpl_core.specs.Meaning.{Ended, Going, Standing, Trapped}
-use Rattle.dbpl_core.specs.Whole.{events_of, whole}
-use Rattle.dbpl_core.specs.declared.stored_program.StoredProgram.{StoredProgram}
-use Rattle.dbpl_database.specs.Binding.{Binds, Differs}
+use Rattle.dbpl_stored_program.specs.Meaning.{Ended, Going, Standing, Trapped}
+use Rattle.dbpl_stored_program.specs.Whole.{events_of, whole}
+use Rattle.dbpl_stored_program.specs.declared.stored_program.StoredProgram.{StoredProgram}
+use Rattle.dbpl_value.specs.Binding.{Binds, Differs}
 use Rattle.dbpl_store.specs.Stands.{stands}
 use Rattle.dbpl_stored_run.specs.Headline.{HasMade}
 use Rattle.dbpl_stored_run.specs.declared.stop_err.StopErr.{StopErr}

@@ -1,12 +1,20 @@
 -- Why a run stops, from why one of its parts does.
-use Rattle.dbpl_core.specs.declared.run_err.RunErr.{RunErr}
-use Rattle.dbpl_core.specs.declared.run_err.RunErr.TheVariants as run_errors
+use Rattle.std.specs.Prelude.{◌≡◌, ◌⊎◌, ℕ, Err, Result}
+use Rattle.dbpl_stored_program.specs.declared.run_err.RunErr.{RunErr}
+use Rattle.dbpl_stored_program.specs.declared.run_err.RunErr.TheVariants as run_errors
 use Rattle.dbpl_store.specs.declared.store_err.StoreErr.{StoreErr}
 use Rattle.dbpl_store.specs.declared.store_err.StoreErr.TheVariants as store_errors
 use Rattle.dbpl_stored_run.specs.declared.body_err.BodyErr.{BodyErr}
 use Rattle.dbpl_stored_run.specs.declared.body_err.BodyErr.TheVariants as body_errors
 use Rattle.dbpl_stored_run.specs.declared.stop_err.StopErr.{StopErr}
 use Rattle.dbpl_stored_run.specs.declared.stop_err.StopErr.TheVariants as errors
+use Rattle.dbpl_world.specs.Counts.{Rose}
+
+-- The answer of a body that went so, once all that it printed was to be written out: the count of failed prints stayed, or
+-- it rose, and that is the answer.
+abbrev pub IsWrittenOut : Result (Unit {0}) BodyErr → Result (Unit {0}) BodyErr → ℕ → ℕ → Type 0
+IsWrittenOut went answer old new =
+    ((answer ≡ went) × (new ≡ old)) ⊎ ((answer ≡ Err body_errors.OutFault) × Rose old new)
 
 -- a transaction that was not done
 abbrev pub of_transaction : RunErr → BodyErr

@@ -13,7 +13,7 @@ StandsFor database s =
 
 -- Some prefix of the events, those made, printed what was said behind the bytes before, and the two parts stand for the
 -- database of its last commit. Where there is none in it, they stand for this database.
-pub record IsTied (events : List Event) (database : List Bound) (before log pages said : List ℕ) : Type 0 where
+pub record HasMadePrefix (events : List Event) (database : List Bound) (before log pages said : List ℕ) : Type 0 where
   pub made : List Event
   pub rest : List Event
   pub prefix : events ≡ made ++ rest
@@ -22,7 +22,7 @@ pub record IsTied (events : List Event) (database : List Bound) (before log page
 
 -- Whatever a stop leaves of the mounted store is tied to what was said since old. Of the world nothing else has changed.
 pub record LeavesTied (events : List Event) (database : List Bound) (old s : State) : Type 0 where
-  pub left : (log pages : List ℕ) → IsImage s.disk.log log → IsImage s.disk.pages pages → IsTied events database old.said log pages s.said
+  pub left : (log pages : List ℕ) → IsImage s.disk.log log → IsImage s.disk.pages pages → HasMadePrefix events database old.said log pages s.said
   pub others : s ≡ record old { disk = s.disk; said = s.said }
 
 -- All of these events were made since old: what they print was said, and whatever a stop leaves of the mounted store

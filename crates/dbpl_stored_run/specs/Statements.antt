@@ -1,10 +1,10 @@
 -- What one statement of the body does.
 use Rattle.std.specs.Prelude.{List}
 use Rattle.dbpl_core.specs.Events.{Event}
-use Rattle.dbpl_core.specs.Meaning.{Standing}
-use Rattle.dbpl_core.specs.Whole.{comes_to}
-use Rattle.dbpl_core.specs.declared.action.Action.{Action}
-use Rattle.dbpl_core.specs.declared.stored_program.StoredProgram.{StoredProgram}
+use Rattle.dbpl_stored_program.specs.Meaning.{Standing}
+use Rattle.dbpl_stored_program.specs.Whole.{comes_to}
+use Rattle.dbpl_stored_program.specs.declared.action.Action.{Action}
+use Rattle.dbpl_stored_program.specs.declared.stored_program.StoredProgram.{StoredProgram}
 use Rattle.dbpl_value.specs.declared.bound.Bound.{Bound}
 
 -- the events of these statements over this database

@@ -4,7 +4,8 @@ ghost use Rattle.dbpl_stored_run.specs.Errors.{of_transaction};
 ghost use Rattle.dbpl_stored_run.specs.declared.body_err.BodyErr.TheVariants.{Memory as OutOfMemory};
 
 use dbpl_base::Memory;
-use dbpl_core::{RunErr, Trap};
+use dbpl_core::Trap;
+use dbpl_stored_program::RunErr;
 
 /// Why the body of a program stops before its end.
 #[derive(Clone, Copy, Debug, PartialEq, Eq)]

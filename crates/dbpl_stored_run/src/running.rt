@@ -1,10 +1,10 @@
 //! A run of a program over the mounted store.
 ghost use Rattle.std.specs.Prelude.{◌≡◌, ◌⊎◌, ℕ, Err, IfErr, IsSome, IsTrue, List, None, OnOk};
-ghost use Rattle.dbpl_core.specs.Meaning.{Ended, Trapped};
-ghost use Rattle.dbpl_core.specs.Programs.{is_small_program};
-ghost use Rattle.dbpl_core.specs.Whole.{events_of, whole};
+ghost use Rattle.dbpl_stored_program.specs.Meaning.{Ended, Trapped};
+ghost use Rattle.dbpl_stored_program.specs.Programs.{is_small_program};
+ghost use Rattle.dbpl_stored_program.specs.Whole.{events_of, whole};
 ghost use Rattle.dbpl_core.specs.declared.trap.Trap.{Trap as AnyTrap};
-ghost use Rattle.dbpl_database.specs.Binding.{Binds, Differs};
+ghost use Rattle.dbpl_value.specs.Binding.{Binds, Differs};
 ghost use Rattle.dbpl_log.specs.Records.{HasHead};
 ghost use Rattle.dbpl_store.specs.Stands.{LeavesOld, stands};
 ghost use Rattle.dbpl_stored_run.specs.Answers.{HasOther, HasRun, IsDue, IsRefusal, ReadsAs};
@@ -18,8 +18,8 @@ ghost use Rattle.dbpl_world.specs.Moments.{EachMoment};
 
 use crate::StopErr;
 use crate::statements::run_body;
-use dbpl_core::StoredProgram;
 use dbpl_store::open;
+use dbpl_stored_program::StoredProgram;
 use dbpl_world::World;
 use std::alloc::Global;
 
@@ -62,6 +62,7 @@ pub fn run_stored<W: World>(
         (result ≡ Err errors.SchemaDiffers) ⊎ ((result ≡ Err errors.DiskFault) ⊎ (result ≡ Err errors.Memory)) }
     ensures disk_fault { result ≡ Err errors.DiskFault → Rose (W.counts world.old).disk_faults (W.counts world.new).disk_faults }
     ensures out_fault { result ≡ Err errors.OutFault → Rose (W.counts world.old).say_faults (W.counts world.new).say_faults }
+    ensures out_fault_where { (result ≡ Err errors.OutFault) ⊎ ((W.counts world.new).say_faults ≡ (W.counts world.old).say_faults) }
 
     // What is left as it was.
     ensures refused { IsTrue W.tells → IfErr result (λ why. IsRefusal why → EachMoment (LeavesOld (now (W.history world.old))) (W.history world.old) (W.history world.new)) }

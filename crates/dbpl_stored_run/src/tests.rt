@@ -1,13 +1,14 @@
 //! Runs over a world in memory, with D.r: RELATION pos OF RECORD pos, qty: CARDINAL END.
 ghost use Rattle.std.specs.Prelude.{◌≡◌, IfSome, IsSome, IsTrue};
-ghost use Rattle.dbpl_database.specs.Databases.{is_bound};
+ghost use Rattle.dbpl_value.specs.Databases.{is_bound};
 ghost use Rattle.dbpl_world.specs.InMemory.{mounted_in};
 
 use crate::{StopErr, run_stored};
 use dbpl_base::{List, Memory, Place, name_of};
-use dbpl_core::{Action, Insertion, StoredProgram, Trap, is_small};
+use dbpl_core::Trap;
 use dbpl_database::read_database;
 use dbpl_store::open;
+use dbpl_stored_program::{Action, Insertion, StoredProgram, is_small};
 use dbpl_value::{Bound, field_of, parts_of};
 use dbpl_world::{MemoryWorld, Part, World};
 use std::alloc::Global;

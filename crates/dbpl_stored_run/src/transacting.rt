@@ -1,23 +1,26 @@
 //! The transaction of a program, over an open store.
-ghost use Rattle.std.specs.Prelude.{◌≡◌, [], ◌∷◌, false, true, Err, IsSome, IsTrue, Ok, OnOk};
-ghost use Rattle.dbpl_core.specs.Meaning.{Ended, Trapped, with_named};
-ghost use Rattle.dbpl_core.specs.Programs.{is_small_program};
+ghost use Rattle.std.specs.Prelude.{◌≡◌, ◌⊎◌, [], ◌∷◌, false, true, Err, IfErr, IsSome, IsTrue, Ok, OnOk};
+ghost use Rattle.dbpl_stored_program.specs.Meaning.{Ended, Trapped, with_named};
+ghost use Rattle.dbpl_stored_program.specs.Programs.{is_small_program};
 ghost use Rattle.dbpl_core.specs.Events.{last};
-ghost use Rattle.dbpl_core.specs.Whole.{transacted_by};
-ghost use Rattle.dbpl_core.specs.declared.action.Action.TheVariants.{Transact};
+ghost use Rattle.dbpl_stored_program.specs.Whole.{transacted_by};
+ghost use Rattle.dbpl_stored_program.specs.declared.action.Action.TheVariants.{Transact};
 ghost use Rattle.dbpl_core.specs.declared.trap.Trap.{Trap as AnyTrap};
-ghost use Rattle.dbpl_store.specs.Stores.{IsBoundTo, IsOpen, committed_of, database_in, is_running};
+ghost use Rattle.dbpl_log.specs.Changes.{ChangesLog};
+ghost use Rattle.dbpl_store.specs.Stands.{IsEither, LeavesDatabase};
+ghost use Rattle.dbpl_store.specs.Stores.{IsBoundTo, IsOpen, bound_in, committed_of, database_in, is_running};
 ghost use Rattle.dbpl_stored_run.specs.Headline.{HasMade, LeavesTied};
-ghost use Rattle.dbpl_stored_run.specs.Leaving.{ChangesStore};
+ghost use Rattle.dbpl_stored_run.specs.Leaving.{ChangesStore, OnlyRunFaults};
 ghost use Rattle.dbpl_stored_run.specs.Statements.{events_by, standing_by};
 ghost use Rattle.dbpl_value.specs.declared.value.Value.{Value};
-ghost use Rattle.dbpl_world.specs.Counts.{OnlyDiskFaults, Rose};
+ghost use Rattle.dbpl_world.specs.Counts.{Rose};
 ghost use Rattle.dbpl_world.specs.History.{now};
 ghost use Rattle.dbpl_world.specs.Moments.{EachMoment};
 
 use crate::body_err::BodyErr;
-use dbpl_core::{RunErr, StoredProgram, transacted};
+use crate::printing::write_out;
 use dbpl_store::Store;
+use dbpl_stored_program::{RunErr, StoredProgram, transacted};
 use dbpl_world::{Failed, World};
 use std::alloc::Global;
 
@@ -49,13 +52,41 @@ pub(crate) fn transact<W: World>(
     ensures bound { OnOk result (IsBoundTo program.now.relation store.new) }
     ensures still { OnOk result (is_running store.new ≡ false) }
 
+    ensures unwritten { IsTrue W.tells → result ≡ Err BodyErr.OutFault → W.history world.new ≡ W.history world.old }
     ensures only { IsTrue W.tells → EachMoment (ChangesStore (now (W.history world.old))) (W.history world.old) (W.history world.new) }
     ensures same { W.mounted world.new ≡ W.mounted world.old }
-    ensures counts { OnlyDiskFaults (W.counts world.old) (W.counts world.new) }
+    ensures counts { OnlyRunFaults (W.counts world.old) (W.counts world.new) }
     ensures disk_fault { result ≡ Err BodyErr.DiskFault → Rose (W.counts world.old).disk_faults (W.counts world.new).disk_faults }
-    ensures no_out_fault { result ≡ Err BodyErr.OutFault → ⊥ }
+    ensures out_fault { result ≡ Err BodyErr.OutFault → Rose (W.counts world.old).say_faults (W.counts world.new).say_faults }
+    ensures out_fault_where { (result ≡ Err BodyErr.OutFault) ⊎ ((W.counts world.new).say_faults ≡ (W.counts world.old).say_faults) }
 {
     change(alloc, program, store)?;
+    commit(store, world)
+}
+
+/// Commits what the transaction made, once all that was printed is written out. Where that fails nothing is committed.
+fn commit<W: World>(store: &mut Store, world: &mut W) -> Result<(), BodyErr>
+    requires mounted { IsSome (W.mounted world.old) }
+    requires running { IsTrue (is_running store.old) }
+    ensures moments { IsTrue W.tells → IsOpen (now (W.history world.old)) store.old →
+        EachMoment (LeavesDatabase (IsEither (committed_of store.old) (database_in store.old)) (now (W.history world.old)))
+        (W.history world.old) (W.history world.new) }
+    ensures open { IsTrue W.tells → IsOpen (now (W.history world.old)) store.old →
+        OnOk result (IsOpen (now (W.history world.new)) store.new) }
+    ensures committed { OnOk result (committed_of store.new ≡ database_in store.old) }
+    ensures unwritten { IsTrue W.tells → result ≡ Err BodyErr.OutFault → W.history world.new ≡ W.history world.old }
+    ensures only_log { IsTrue W.tells → EachMoment (ChangesLog (now (W.history world.old))) (W.history world.old) (W.history world.new) }
+    ensures database { database_in store.new ≡ database_in store.old }
+    ensures ended { OnOk result (is_running store.new ≡ false) }
+    ensures bound { bound_in store.new ≡ bound_in store.old }
+    ensures same { W.mounted world.new ≡ W.mounted world.old }
+    ensures counts { OnlyRunFaults (W.counts world.old) (W.counts world.new) }
+    ensures err { IfErr result (λ why. (why ≡ BodyErr.DiskFault) ⊎ (why ≡ BodyErr.OutFault)) }
+    ensures disk_fault { result ≡ Err BodyErr.DiskFault → Rose (W.counts world.old).disk_faults (W.counts world.new).disk_faults }
+    ensures out_fault { result ≡ Err BodyErr.OutFault → Rose (W.counts world.old).say_faults (W.counts world.new).say_faults }
+    ensures out_fault_where { (result ≡ Err BodyErr.OutFault) ⊎ ((W.counts world.new).say_faults ≡ (W.counts world.old).say_faults) }
+{
+    write_out(world)?;
     match store.commit(world) {
         Ok(()) => Ok(()),
         Err(Failed) => Err(BodyErr::DiskFault),

@@ -1,14 +1,14 @@
 -- From each moment of a run to whatever a stop might leave.
 use Rattle.std.proofs.Common.{ℕ, List, IsTrue, inl, inr}
 use Rattle.dbpl_base.specs.declared.status.Status.{Status}
-use Rattle.dbpl_core.specs.Whole.{events_of}
-use Rattle.dbpl_core.specs.declared.stored_program.StoredProgram.{StoredProgram}
-use Rattle.dbpl_database.specs.Binding.{Binds}
+use Rattle.dbpl_stored_program.specs.Whole.{events_of}
+use Rattle.dbpl_stored_program.specs.declared.stored_program.StoredProgram.{StoredProgram}
+use Rattle.dbpl_value.specs.Binding.{Binds}
 use Rattle.dbpl_sources.specs.Work.{Work}
 use Rattle.dbpl_stored_modes.specs.Images.{ReadsThere, StandsThere}
 use Rattle.dbpl_stored_modes.specs.Runs.{IsProgramOf, Runs}
 use Rattle.dbpl_stored_modes.specs.StoredRuns.{HasAll, ReadsOver, RunsOver}
-use Rattle.dbpl_stored_run.specs.Headline.{IsTied}
+use Rattle.dbpl_stored_run.specs.Headline.{HasMadePrefix}
 use Rattle.dbpl_tool.specs.Wholes.{IsWhole}
 use Rattle.dbpl_value.specs.declared.bound.Bound.{Bound}
 use Rattle.dbpl_world.proofs.Moments.{might_each, moments_start}
@@ -22,9 +22,9 @@ module _ (store schema program : List ℕ) (work : Work) (answer : Status) (runs
 
   pub tied_each : IsTrue work.tells → IsProgramOf work.files schema program stored → StandsThere store (now work.before) database →
       Binds stored.relation database bound → (log pages said : List ℕ) → Might work.after store (clock work.before) log pages said →
-      IsTied (events_of stored bound (now work.before).input) database (now work.before).said log pages said
+      HasMadePrefix (events_of stored bound (now work.before).input) database (now work.before).said log pages said
   tied_each tells of stands binds log pages said might =
-      might_each (IsTied (events_of stored bound (now work.before).input) database (now work.before).said) store work.before work.after
+      might_each (HasMadePrefix (events_of stored bound (now work.before).input) database (now work.before).said) store work.before work.after
       ((runs.runs stored of).headline tells database bound (over stands binds)) log pages said might
 
   -- what is left at the end is left from then on

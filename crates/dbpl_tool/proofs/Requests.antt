@@ -3,7 +3,7 @@ use Rattle.std.proofs.Common.{◌≡◌, ◌⊎◌, ℕ, List, inl, inr, subst}
 use Rattle.dbpl_alone.specs.RunsAlone.{RunsAlone}
 use Rattle.dbpl_base.specs.declared.status.Status.{Status}
 use Rattle.dbpl_base.specs.declared.status.Status.TheVariants.{BadWords}
-use Rattle.dbpl_core.specs.declared.stored_program.StoredProgram.{StoredProgram}
+use Rattle.dbpl_stored_program.specs.declared.stored_program.StoredProgram.{StoredProgram}
 use Rattle.dbpl_sources.specs.Work.{OnlyNotes, Work}
 use Rattle.dbpl_stored_modes.specs.Creating.{Creates}
 use Rattle.dbpl_stored_modes.specs.Reading.{IsNoProgram, ReadsProgram}

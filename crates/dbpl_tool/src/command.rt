@@ -2,16 +2,16 @@
 ghost use Rattle.std.specs.Prelude.{◌≡◌, ◌⊎◌, ◌≤◌, ℕ, List, map, IsSomeAnd, IsTrue, Some};
 ghost use Rattle.dbpl_alone.specs.Headline.{PrintsPrefix, SaidSince};
 ghost use Rattle.dbpl_alone.specs.RunsAlone.{RunsAlone};
-ghost use Rattle.dbpl_core.specs.Whole.{events_of};
-ghost use Rattle.dbpl_core.specs.declared.stored_program.StoredProgram.{StoredProgram};
-ghost use Rattle.dbpl_database.specs.Binding.{Binds};
-ghost use Rattle.dbpl_front.specs.Texts.{IsModule};
-ghost use Rattle.dbpl_front.specs.declared.program.Program.{Program};
+ghost use Rattle.dbpl_stored_program.specs.Whole.{events_of};
+ghost use Rattle.dbpl_stored_program.specs.declared.stored_program.StoredProgram.{StoredProgram};
+ghost use Rattle.dbpl_value.specs.Binding.{Binds};
+ghost use Rattle.dbpl_alone.specs.Modules.{IsModule};
+ghost use Rattle.dbpl_alone.specs.declared.program.Program.{Program};
 ghost use Rattle.dbpl_stored_modes.specs.Creating.{Creates};
 ghost use Rattle.dbpl_stored_modes.specs.Images.{ReadsThere, StandsThere};
 ghost use Rattle.dbpl_stored_modes.specs.Runs.{IsProgramOf, Runs};
 ghost use Rattle.dbpl_stored_modes.specs.StoredRuns.{HasAll};
-ghost use Rattle.dbpl_stored_run.specs.Headline.{IsTied};
+ghost use Rattle.dbpl_stored_run.specs.Headline.{HasMadePrefix};
 ghost use Rattle.dbpl_tool.specs.Notes.{NotedSince, OnlyCommandFaults, Reports};
 ghost use Rattle.dbpl_tool.specs.Wholes.{IsWhole};
 ghost use Rattle.dbpl_value.specs.declared.bound.Bound.{Bound};
@@ -45,7 +45,7 @@ pub fn dbpl<W: World, S: Shelf, L: Ledger>(
     ensures headline { IsTrue W.tells → (store schema program : List ℕ) (stored : StoredProgram) (database bound : List Bound) → AsksToRun words.now store schema program →
         IsProgramOf (S.files shelf.old) schema program stored → StandsThere store (now (W.history world.old)) database → Binds stored.relation database bound →
         (log pages said : List ℕ) → Might (W.history world.new) store (clock (W.history world.old)) log pages said →
-        IsTied (events_of stored bound (now (W.history world.old)).input) database (now (W.history world.old)).said log pages said }
+        HasMadePrefix (events_of stored bound (now (W.history world.old)).input) database (now (W.history world.old)).said log pages said }
     ensures whole { IsTrue W.tells → (store schema program : List ℕ) (stored : StoredProgram) (database bound : List Bound) → AsksToRun words.now store schema program →
         IsProgramOf (S.files shelf.old) schema program stored → ReadsThere store (now (W.history world.old)) database → Binds stored.relation database bound →
         IsWhole result → (log pages said : List ℕ) → Might (W.history world.new) store (clock (W.history world.new)) log pages said →

@@ -2,7 +2,8 @@
 ghost use Rattle.std.specs.Prelude.{◌≡◌, ◌<◌};
 
 use crate::dbpl;
-use dbpl_base::{List, Name, SOURCE_BYTES, Status, Steps, name_of};
+use dbpl_base::limits::SOURCE_BYTES;
+use dbpl_base::{List, Name, Status, Steps, name_of};
 use dbpl_world::{MemoryShelf, MemoryWorld};
 use std::alloc::Global;
 use std::marker::Brand;

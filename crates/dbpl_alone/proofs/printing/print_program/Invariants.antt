@@ -11,4 +11,5 @@ invariant-loop-statement g l = record {
   told : IsTrue g.W.World.tells → g.W.World.history l.world ≡ more (g.W.World.history l.initial.world) (map Said (flat_map printed_by (take l.statement-index l.statement-items)));
   same : g.W.World.mounted l.world ≡ g.W.World.mounted l.initial.world;
   counts : OnlySayFaults (g.W.World.counts l.initial.world) (g.W.World.counts l.world);
+  fine : (g.W.World.counts l.world).say_faults ≡ (g.W.World.counts l.initial.world).say_faults;
 }

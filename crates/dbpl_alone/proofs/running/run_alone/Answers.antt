@@ -1,5 +1,5 @@
 -- Each return has its cause, and the rows follow from it.
-use Rattle.std.proofs.Common.{refl}
+use Rattle.std.proofs.Common.{inl, inr, refl}
 use Rattle.dbpl_alone.proofs.Causes.{cut_off, not_read, printed, still, unread}
 use Rattle.dbpl_alone.proofs.Moments.{unnoted}
 use Rattle.dbpl_alone.proofs.Rows.{rows}
@@ -20,6 +20,7 @@ returns-in-Err-clause-runs g c =
       counts_after = g.W.World.counts c.args.world.now;
     } in
     rows c.args.file.now work c.in-Err.status (unread c.args.file.now work c.in-Err.status c.in-Err.ensures.err (still work refl))
+    (inr refl)
 
 pub returns-in-Err-module-clause-runs : goal.returns-in-Err-module-clause-runs
 returns-in-Err-module-clause-runs g c =
@@ -37,7 +38,7 @@ returns-in-Err-module-clause-runs g c =
     record { told = c.in-Ok.ensures.found; within = c.in-Ok.ensures.within } in
     let cause = rw c.as_slice.ensures.value at c.in-Err-module.ensures.err in
     rows c.args.file.now work c.in-Err-module.status
-    (not_read c.args.file.now work c.in-Ok.text.items c.in-Err-module.status has cause (still work refl))
+    (not_read c.args.file.now work c.in-Ok.text.items c.in-Err-module.status has cause (still work refl)) (inr refl)
 
 pub returns-in-Ok-print_program-clause-runs : goal.returns-in-Ok-print_program-clause-runs
 returns-in-Ok-print_program-clause-runs g c =
@@ -56,6 +57,7 @@ returns-in-Ok-print_program-clause-runs g c =
     let the = rw c.as_slice.ensures.value at c.in-Ok-module.ensures.found in
     rows c.args.file.now work _
     (printed c.args.file.now work c.in-Ok.text.items c.in-Ok-module.program has the c.in-Ok-print_program.ensures.ok)
+    (inr c.in-Ok-print_program.ensures.fine)
 
 pub returns-in-Ok-print_program-clause-unnoted : goal.returns-in-Ok-print_program-clause-unnoted
 returns-in-Ok-print_program-clause-unnoted g c = λ told. unnoted _ _ _ (c.in-Ok-print_program.ensures.ok told)
@@ -78,6 +80,7 @@ returns-clause-runs g c =
     rows c.args.file.now work _
     (cut_off c.args.file.now work c.in-Ok.text.items c.in-Ok-module.program has the c.in-Err-print_program.ensures.cause
     c.in-Err-print_program.ensures.err)
+    (inl refl)
 
 pub returns-clause-unnoted : goal.returns-clause-unnoted
 returns-clause-unnoted g c = λ told. unnoted _ _ _ (c.in-Err-print_program.ensures.err told).1

@@ -9,4 +9,4 @@ returns-in-Ok-clause-runs g c =
 
 pub returns-in-Err-clause-runs : goal.returns-in-Err-clause-runs
 returns-in-Err-clause-runs g c =
-    unread_runs c.args.store.now c.args.schema.now c.args.program.now _ _ refl c.in-Err.ensures.err
+    unread_runs c.args.store.now c.args.schema.now c.args.program.now _ _ refl refl c.in-Err.ensures.err

@@ -1,21 +1,23 @@
 -- Each return has its cause.
 use Rattle.std.proofs.Common.{Err, ap}
-use Rattle.dbpl_stored_modes.proofs.RunLaw.{Ran, named_store, ran_unnoted, runs_stored, still_runs}
+use Rattle.dbpl_stored_modes.proofs.RunLaw.{RanMounted, named_store, ran_unnoted, runs_stored, still_runs}
 use Rattle.dbpl_world.specs.History.{now}
 use Rattle.dbpl_world.specs.declared.counts.Counts.{Counts}
 use Rattle.dbpl_stored_modes.proofs.running.run_over.Goals as goal
 
 pub returns-in-Err-Failed-clause-runs : goal.returns-in-Err-Failed-clause-runs
 returns-in-Err-Failed-clause-runs g c = λ files faults_before faults_after.
-    still_runs c.args.store.now c.args.program.now _ _ c.in-Err-Failed.ensures.unchanged (c.in-Err-Failed.ensures.cause (ap Err c.in-Err-Failed.field-0-is), named_store c.args.store.now c.if-eq.ensures)
+    still_runs c.args.store.now c.args.program.now _ _ c.in-Err-Failed.ensures.unchanged
+    (ap (λ (counts : Counts). counts.say_faults) c.mount.ensures.counts.others) (c.in-Err-Failed.ensures.cause (ap Err c.in-Err-Failed.field-0-is), named_store c.args.store.now c.if-eq.ensures)
 
 pub returns-in-Err-Memory-clause-runs : goal.returns-in-Err-Memory-clause-runs
 returns-in-Err-Memory-clause-runs g c = λ files faults_before faults_after.
-    still_runs c.args.store.now c.args.program.now _ _ c.in-Err-Memory.ensures.unchanged tt
+    still_runs c.args.store.now c.args.program.now _ _ c.in-Err-Memory.ensures.unchanged
+    (ap (λ (counts : Counts). counts.say_faults) c.mount.ensures.counts.others) tt
 
 pub returns-clause-runs : goal.returns-clause-runs
 returns-clause-runs g c = λ files faults_before faults_after.
-    let run : Ran c.args.program.now g.W.World.tells (g.W.World.history c.mount.new.self) (g.W.World.history c.run_stored.new.world)
+    let run : RanMounted c.args.program.now g.W.World.tells (g.W.World.history c.mount.new.self) (g.W.World.history c.run_stored.new.world)
     (g.W.World.counts c.mount.new.self) (g.W.World.counts c.run_stored.new.world) c.run_stored.result = record {
       headline = c.run_stored.ensures.headline;
       made = c.run_stored.ensures.whole;
@@ -31,6 +33,7 @@ returns-clause-runs g c = λ files faults_before faults_after.
       differs_where = c.run_stored.ensures.differs_where;
       disk_fault = c.run_stored.ensures.disk_fault;
       out_fault = c.run_stored.ensures.out_fault;
+      out_fault_where = c.run_stored.ensures.out_fault_where;
       refused = c.run_stored.ensures.refused;
       unbound = c.run_stored.ensures.unbound;
       only = c.run_stored.ensures.only;

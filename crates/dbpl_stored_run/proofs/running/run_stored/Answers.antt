@@ -1,14 +1,15 @@
 -- A run that began has the store's database and what its variable is bound to; one that didn't leaves what was there.
 use Rattle.std.proofs.Common.{◌∙◌, inl, inr, Err, ap, refl}
-use Rattle.dbpl_core.proofs.Programs.{small-kept}
-use Rattle.dbpl_core.specs.Meaning.{Ended, Trapped}
-use Rattle.dbpl_core.specs.Whole.{events_of}
+use Rattle.dbpl_stored_program.proofs.Programs.{small-kept}
+use Rattle.dbpl_stored_program.specs.Meaning.{Ended, Trapped}
+use Rattle.dbpl_stored_program.specs.Whole.{events_of}
 use Rattle.dbpl_store.specs.Stores.{committed_of, database_in}
 use Rattle.dbpl_store.specs.declared.store_err.StoreErr.TheVariants as store_errors
 use Rattle.dbpl_stored_run.proofs.Answering.{counts-then, disk-counts, due-ended, due-stopped, due-unopened, due-wanting, every-err, handed, memory-only, no-ok, no-other_type, no-out_fault, no-refusal, no-trap, opening-failed, opening-three, opening-two, unrefused, was-damaged, was-disk_fault, was-fault, was-no_store, was-out_fault, was-trapped}
-use Rattle.dbpl_stored_run.proofs.Ending.{HasBegun, begun, begun-agrees, begun-head, begun-made, begun-moments, begun-run, begun-sound, begun-stands, has-other, matched-true, moments-unbegun, other-unbound, reads-head, reads-of, reads-sound}
+use Rattle.dbpl_stored_run.proofs.Ending.{HasBegun, bound-begun, begun-agrees, begun-head, begun-made, begun-moments, begun-run, begun-sound, begun-stands, has-other, matched-true, moments-unbegun, other-unbound, reads-head, reads-of, reads-undamaged}
 use Rattle.dbpl_stored_run.proofs.Stores.{open-kept}
 use Rattle.dbpl_stored_run.proofs.Tying.{only-synced, only-then}
+use Rattle.dbpl_stored_run.proofs.WrittenOut.{disk-fine, fine-since, fine-where, run-where}
 use Rattle.dbpl_stored_run.specs.declared.stop_err.StopErr.TheVariants as errors
 use Rattle.dbpl_world.proofs.CountLaws.{rose_since}
 use Rattle.dbpl_world.specs.History.{now}
@@ -40,7 +41,7 @@ returns-in_err-store-clause-complete g c =
     λ told database bound reads binds no_disk no_say.
     due-unopened c.args.program.now bound (now (g.W.World.history c.args.world.now)).input c.from_residual.result _ is
     (λ e. c.open.ensures.not_store told (c.in_err-store.was ∙ ap (λ w. Err w) e) (reads-head database (now (g.W.World.history c.args.world.now)) reads))
-    (λ page e. reads-sound database (now (g.W.World.history c.args.world.now)) reads (c.open.ensures.damaged told page (c.in_err-store.was ∙ ap (λ w. Err w) e)).2)
+    (λ page e. reads-undamaged database (now (g.W.World.history c.args.world.now)) reads (c.open.ensures.damaged told page (c.in_err-store.was ∙ ap (λ w. Err w) e)).2)
     (λ e. no_disk (c.open.ensures.cause (c.in_err-store.was ∙ ap (λ w. Err w) e)))
 
 pub returns-in_err-store-clause-ended : goal.returns-in_err-store-clause-ended
@@ -87,7 +88,7 @@ returns-in_err-store-clause-differs_where g c =
     λ told database reads differs.
     inr (opening-failed c.from_residual.result c.open.result _ is c.in_err-store.was
     (λ e. c.open.ensures.not_store told e (reads-head database (now (g.W.World.history c.args.world.now)) reads))
-    (λ page e. reads-sound database (now (g.W.World.history c.args.world.now)) reads (c.open.ensures.damaged told page e).2))
+    (λ page e. reads-undamaged database (now (g.W.World.history c.args.world.now)) reads (c.open.ensures.damaged told page e).2))
 
 pub returns-in_err-store-clause-disk_fault : goal.returns-in_err-store-clause-disk_fault
 returns-in_err-store-clause-disk_fault g c =
@@ -98,6 +99,9 @@ pub returns-in_err-store-clause-out_fault : goal.returns-in_err-store-clause-out
 returns-in_err-store-clause-out_fault g c =
     let is = handed c.from_residual.result _ c.from_residual.ensures.1 in
     λ e. no-out_fault c.from_residual.result _ is e
+
+pub returns-in_err-store-clause-out_fault_where : goal.returns-in_err-store-clause-out_fault_where
+returns-in_err-store-clause-out_fault_where g c = inr (disk-fine _ _ c.open.ensures.counts)
 
 pub returns-in_err-store-clause-refused : goal.returns-in_err-store-clause-refused
 returns-in_err-store-clause-refused g c =
@@ -185,6 +189,9 @@ returns-in_err-is_bound-clause-out_fault g c =
     let is = handed c.from_residual-in_err-is_bound.result _ c.from_residual-in_err-is_bound.ensures.1 in
     λ e. memory-only c.from_residual-in_err-is_bound.result errors.OutFault is tt e
 
+pub returns-in_err-is_bound-clause-out_fault_where : goal.returns-in_err-is_bound-clause-out_fault_where
+returns-in_err-is_bound-clause-out_fault_where g c = inr (disk-fine _ _ c.open.ensures.counts)
+
 pub returns-in_err-is_bound-clause-refused : goal.returns-in_err-is_bound-clause-refused
 returns-in_err-is_bound-clause-refused g c =
     λ told. every-err c.from_residual-in_err-is_bound.result (λ why refusal. c.open.ensures.moments told)
@@ -219,7 +226,7 @@ returns-then-not-is_bound-clause-not_store_where g c =
 pub returns-then-not-is_bound-clause-damaged_where : goal.returns-then-not-is_bound-clause-damaged_where
 returns-then-not-is_bound-clause-damaged_where g c =
     λ told head none.
-    reads-sound (committed_of c.in_ok-store.store) (now (g.W.World.history c.args.world.now)) (c.in_ok-store.ensures.read told) none
+    reads-undamaged (committed_of c.in_ok-store.store) (now (g.W.World.history c.args.world.now)) (c.in_ok-store.ensures.read told) none
 
 pub returns-then-not-is_bound-clause-differs : goal.returns-then-not-is_bound-clause-differs
 returns-then-not-is_bound-clause-differs g c =
@@ -229,6 +236,9 @@ returns-then-not-is_bound-clause-differs g c =
 pub returns-then-not-is_bound-clause-differs_where : goal.returns-then-not-is_bound-clause-differs_where
 returns-then-not-is_bound-clause-differs_where g c =
     λ told database reads differs. inl refl
+
+pub returns-then-not-is_bound-clause-out_fault_where : goal.returns-then-not-is_bound-clause-out_fault_where
+returns-then-not-is_bound-clause-out_fault_where g c = inr (disk-fine _ _ c.open.ensures.counts)
 
 pub returns-then-not-is_bound-clause-refused : goal.returns-then-not-is_bound-clause-refused
 returns-then-not-is_bound-clause-refused g c =
@@ -250,7 +260,7 @@ returns-then-not-is_bound-clause-counts g c =
 pub returns-in_err-run_body-clause-headline : goal.returns-in_err-run_body-clause-headline
 returns-in_err-run_body-clause-headline g c =
     let begins : HasBegun c.args.program.now g.W.World.tells c.bind.new.self (g.W.World.history c.args.world.now) (g.W.World.history c.open.new.world) =
-    begun c.args.program.now g.W.World.tells c.in_ok-store.store c.bind.new.self (g.W.World.history c.args.world.now) (g.W.World.history c.open.new.world) c.in_ok-store.ensures.read
+    bound-begun c.args.program.now g.W.World.tells c.in_ok-store.store c.bind.new.self (g.W.World.history c.args.world.now) (g.W.World.history c.open.new.world) c.in_ok-store.ensures.read
     c.in_ok-store.ensures.database c.bind.ensures.committed
     (matched-true c.args.program.now.relation c.in_ok-store.store c.bind.new.self c.in_ok-is_bound.is_bound (now (g.W.World.history c.args.world.now)) c.in_ok-is_bound.ensures.bound c.if-not-is_bound.false).0
     (λ told. open-kept (now (g.W.World.history c.open.new.world)) (now (g.W.World.history c.open.new.world)) c.in_ok-store.store c.bind.new.self refl c.bind.ensures.log c.bind.ensures.committed
@@ -268,7 +278,7 @@ returns-in_err-run_body-clause-whole g c =
 pub returns-in_err-run_body-clause-whole_trapped : goal.returns-in_err-run_body-clause-whole_trapped
 returns-in_err-run_body-clause-whole_trapped g c =
     let begins : HasBegun c.args.program.now g.W.World.tells c.bind.new.self (g.W.World.history c.args.world.now) (g.W.World.history c.open.new.world) =
-    begun c.args.program.now g.W.World.tells c.in_ok-store.store c.bind.new.self (g.W.World.history c.args.world.now) (g.W.World.history c.open.new.world) c.in_ok-store.ensures.read
+    bound-begun c.args.program.now g.W.World.tells c.in_ok-store.store c.bind.new.self (g.W.World.history c.args.world.now) (g.W.World.history c.open.new.world) c.in_ok-store.ensures.read
     c.in_ok-store.ensures.database c.bind.ensures.committed
     (matched-true c.args.program.now.relation c.in_ok-store.store c.bind.new.self c.in_ok-is_bound.is_bound (now (g.W.World.history c.args.world.now)) c.in_ok-is_bound.ensures.bound c.if-not-is_bound.false).0
     (λ told. open-kept (now (g.W.World.history c.open.new.world)) (now (g.W.World.history c.open.new.world)) c.in_ok-store.store c.bind.new.self refl c.bind.ensures.log c.bind.ensures.committed
@@ -284,7 +294,7 @@ returns-in_err-run_body-clause-whole_trapped g c =
 pub returns-in_err-run_body-clause-complete : goal.returns-in_err-run_body-clause-complete
 returns-in_err-run_body-clause-complete g c =
     let begins : HasBegun c.args.program.now g.W.World.tells c.bind.new.self (g.W.World.history c.args.world.now) (g.W.World.history c.open.new.world) =
-    begun c.args.program.now g.W.World.tells c.in_ok-store.store c.bind.new.self (g.W.World.history c.args.world.now) (g.W.World.history c.open.new.world) c.in_ok-store.ensures.read
+    bound-begun c.args.program.now g.W.World.tells c.in_ok-store.store c.bind.new.self (g.W.World.history c.args.world.now) (g.W.World.history c.open.new.world) c.in_ok-store.ensures.read
     c.in_ok-store.ensures.database c.bind.ensures.committed
     (matched-true c.args.program.now.relation c.in_ok-store.store c.bind.new.self c.in_ok-is_bound.is_bound (now (g.W.World.history c.args.world.now)) c.in_ok-is_bound.ensures.bound c.if-not-is_bound.false).0
     (λ told. open-kept (now (g.W.World.history c.open.new.world)) (now (g.W.World.history c.open.new.world)) c.in_ok-store.store c.bind.new.self refl c.bind.ensures.log c.bind.ensures.committed
@@ -307,7 +317,7 @@ returns-in_err-run_body-clause-ended g c =
 pub returns-in_err-run_body-clause-trapped : goal.returns-in_err-run_body-clause-trapped
 returns-in_err-run_body-clause-trapped g c =
     let begins : HasBegun c.args.program.now g.W.World.tells c.bind.new.self (g.W.World.history c.args.world.now) (g.W.World.history c.open.new.world) =
-    begun c.args.program.now g.W.World.tells c.in_ok-store.store c.bind.new.self (g.W.World.history c.args.world.now) (g.W.World.history c.open.new.world) c.in_ok-store.ensures.read
+    bound-begun c.args.program.now g.W.World.tells c.in_ok-store.store c.bind.new.self (g.W.World.history c.args.world.now) (g.W.World.history c.open.new.world) c.in_ok-store.ensures.read
     c.in_ok-store.ensures.database c.bind.ensures.committed
     (matched-true c.args.program.now.relation c.in_ok-store.store c.bind.new.self c.in_ok-is_bound.is_bound (now (g.W.World.history c.args.world.now)) c.in_ok-is_bound.ensures.bound c.if-not-is_bound.false).0
     (λ told. open-kept (now (g.W.World.history c.open.new.world)) (now (g.W.World.history c.open.new.world)) c.in_ok-store.store c.bind.new.self refl c.bind.ensures.log c.bind.ensures.committed
@@ -328,7 +338,7 @@ returns-in_err-run_body-clause-not_store g c =
 pub returns-in_err-run_body-clause-not_store_where : goal.returns-in_err-run_body-clause-not_store_where
 returns-in_err-run_body-clause-not_store_where g c =
     let begins : HasBegun c.args.program.now g.W.World.tells c.bind.new.self (g.W.World.history c.args.world.now) (g.W.World.history c.open.new.world) =
-    begun c.args.program.now g.W.World.tells c.in_ok-store.store c.bind.new.self (g.W.World.history c.args.world.now) (g.W.World.history c.open.new.world) c.in_ok-store.ensures.read
+    bound-begun c.args.program.now g.W.World.tells c.in_ok-store.store c.bind.new.self (g.W.World.history c.args.world.now) (g.W.World.history c.open.new.world) c.in_ok-store.ensures.read
     c.in_ok-store.ensures.database c.bind.ensures.committed
     (matched-true c.args.program.now.relation c.in_ok-store.store c.bind.new.self c.in_ok-is_bound.is_bound (now (g.W.World.history c.args.world.now)) c.in_ok-is_bound.ensures.bound c.if-not-is_bound.false).0
     (λ told. open-kept (now (g.W.World.history c.open.new.world)) (now (g.W.World.history c.open.new.world)) c.in_ok-store.store c.bind.new.self refl c.bind.ensures.log c.bind.ensures.committed
@@ -345,7 +355,7 @@ returns-in_err-run_body-clause-damaged g c =
 pub returns-in_err-run_body-clause-damaged_where : goal.returns-in_err-run_body-clause-damaged_where
 returns-in_err-run_body-clause-damaged_where g c =
     let begins : HasBegun c.args.program.now g.W.World.tells c.bind.new.self (g.W.World.history c.args.world.now) (g.W.World.history c.open.new.world) =
-    begun c.args.program.now g.W.World.tells c.in_ok-store.store c.bind.new.self (g.W.World.history c.args.world.now) (g.W.World.history c.open.new.world) c.in_ok-store.ensures.read
+    bound-begun c.args.program.now g.W.World.tells c.in_ok-store.store c.bind.new.self (g.W.World.history c.args.world.now) (g.W.World.history c.open.new.world) c.in_ok-store.ensures.read
     c.in_ok-store.ensures.database c.bind.ensures.committed
     (matched-true c.args.program.now.relation c.in_ok-store.store c.bind.new.self c.in_ok-is_bound.is_bound (now (g.W.World.history c.args.world.now)) c.in_ok-is_bound.ensures.bound c.if-not-is_bound.false).0
     (λ told. open-kept (now (g.W.World.history c.open.new.world)) (now (g.W.World.history c.open.new.world)) c.in_ok-store.store c.bind.new.self refl c.bind.ensures.log c.bind.ensures.committed
@@ -362,7 +372,7 @@ returns-in_err-run_body-clause-differs g c =
 pub returns-in_err-run_body-clause-differs_where : goal.returns-in_err-run_body-clause-differs_where
 returns-in_err-run_body-clause-differs_where g c =
     let begins : HasBegun c.args.program.now g.W.World.tells c.bind.new.self (g.W.World.history c.args.world.now) (g.W.World.history c.open.new.world) =
-    begun c.args.program.now g.W.World.tells c.in_ok-store.store c.bind.new.self (g.W.World.history c.args.world.now) (g.W.World.history c.open.new.world) c.in_ok-store.ensures.read
+    bound-begun c.args.program.now g.W.World.tells c.in_ok-store.store c.bind.new.self (g.W.World.history c.args.world.now) (g.W.World.history c.open.new.world) c.in_ok-store.ensures.read
     c.in_ok-store.ensures.database c.bind.ensures.committed
     (matched-true c.args.program.now.relation c.in_ok-store.store c.bind.new.self c.in_ok-is_bound.is_bound (now (g.W.World.history c.args.world.now)) c.in_ok-is_bound.ensures.bound c.if-not-is_bound.false).0
     (λ told. open-kept (now (g.W.World.history c.open.new.world)) (now (g.W.World.history c.open.new.world)) c.in_ok-store.store c.bind.new.self refl c.bind.ensures.log c.bind.ensures.committed
@@ -385,6 +395,12 @@ returns-in_err-run_body-clause-out_fault g c =
     λ e.
     rose_since _ _ _ before.say_later (c.run_body.ensures.out_fault (c.in_err-run_body.was ∙ ap (λ w. Err w) (was-out_fault c.from_residual-in_err-run_body.result _ is e)))
 
+pub returns-in_err-run_body-clause-out_fault_where : goal.returns-in_err-run_body-clause-out_fault_where
+returns-in_err-run_body-clause-out_fault_where g c =
+    let is = handed c.from_residual-in_err-run_body.result _ c.from_residual-in_err-run_body.ensures.1 in
+    run-where c.from_residual-in_err-run_body.result c.run_body.result _ is c.in_err-run_body.was
+    (fine-since c.run_body.result _ _ _ (disk-fine _ _ c.open.ensures.counts) c.run_body.ensures.out_fault_where)
+
 pub returns-in_err-run_body-clause-refused : goal.returns-in_err-run_body-clause-refused
 returns-in_err-run_body-clause-refused g c =
     let is = handed c.from_residual-in_err-run_body.result _ c.from_residual-in_err-run_body.ensures.1 in
@@ -393,7 +409,7 @@ returns-in_err-run_body-clause-refused g c =
 pub returns-in_err-run_body-clause-unbound : goal.returns-in_err-run_body-clause-unbound
 returns-in_err-run_body-clause-unbound g c =
     let begins : HasBegun c.args.program.now g.W.World.tells c.bind.new.self (g.W.World.history c.args.world.now) (g.W.World.history c.open.new.world) =
-    begun c.args.program.now g.W.World.tells c.in_ok-store.store c.bind.new.self (g.W.World.history c.args.world.now) (g.W.World.history c.open.new.world) c.in_ok-store.ensures.read
+    bound-begun c.args.program.now g.W.World.tells c.in_ok-store.store c.bind.new.self (g.W.World.history c.args.world.now) (g.W.World.history c.open.new.world) c.in_ok-store.ensures.read
     c.in_ok-store.ensures.database c.bind.ensures.committed
     (matched-true c.args.program.now.relation c.in_ok-store.store c.bind.new.self c.in_ok-is_bound.is_bound (now (g.W.World.history c.args.world.now)) c.in_ok-is_bound.ensures.bound c.if-not-is_bound.false).0
     (λ told. open-kept (now (g.W.World.history c.open.new.world)) (now (g.W.World.history c.open.new.world)) c.in_ok-store.store c.bind.new.self refl c.bind.ensures.log c.bind.ensures.committed
@@ -415,7 +431,7 @@ returns-in_err-run_body-clause-counts g c =
 pub returns-clause-headline : goal.returns-clause-headline
 returns-clause-headline g c =
     let begins : HasBegun c.args.program.now g.W.World.tells c.bind.new.self (g.W.World.history c.args.world.now) (g.W.World.history c.open.new.world) =
-    begun c.args.program.now g.W.World.tells c.in_ok-store.store c.bind.new.self (g.W.World.history c.args.world.now) (g.W.World.history c.open.new.world) c.in_ok-store.ensures.read
+    bound-begun c.args.program.now g.W.World.tells c.in_ok-store.store c.bind.new.self (g.W.World.history c.args.world.now) (g.W.World.history c.open.new.world) c.in_ok-store.ensures.read
     c.in_ok-store.ensures.database c.bind.ensures.committed
     (matched-true c.args.program.now.relation c.in_ok-store.store c.bind.new.self c.in_ok-is_bound.is_bound (now (g.W.World.history c.args.world.now)) c.in_ok-is_bound.ensures.bound c.if-not-is_bound.false).0
     (λ told. open-kept (now (g.W.World.history c.open.new.world)) (now (g.W.World.history c.open.new.world)) c.in_ok-store.store c.bind.new.self refl c.bind.ensures.log c.bind.ensures.committed
@@ -428,7 +444,7 @@ returns-clause-headline g c =
 pub returns-clause-whole : goal.returns-clause-whole
 returns-clause-whole g c =
     let begins : HasBegun c.args.program.now g.W.World.tells c.bind.new.self (g.W.World.history c.args.world.now) (g.W.World.history c.open.new.world) =
-    begun c.args.program.now g.W.World.tells c.in_ok-store.store c.bind.new.self (g.W.World.history c.args.world.now) (g.W.World.history c.open.new.world) c.in_ok-store.ensures.read
+    bound-begun c.args.program.now g.W.World.tells c.in_ok-store.store c.bind.new.self (g.W.World.history c.args.world.now) (g.W.World.history c.open.new.world) c.in_ok-store.ensures.read
     c.in_ok-store.ensures.database c.bind.ensures.committed
     (matched-true c.args.program.now.relation c.in_ok-store.store c.bind.new.self c.in_ok-is_bound.is_bound (now (g.W.World.history c.args.world.now)) c.in_ok-is_bound.ensures.bound c.if-not-is_bound.false).0
     (λ told. open-kept (now (g.W.World.history c.open.new.world)) (now (g.W.World.history c.open.new.world)) c.in_ok-store.store c.bind.new.self refl c.bind.ensures.log c.bind.ensures.committed
@@ -441,7 +457,7 @@ returns-clause-whole g c =
 pub returns-clause-complete : goal.returns-clause-complete
 returns-clause-complete g c =
     let begins : HasBegun c.args.program.now g.W.World.tells c.bind.new.self (g.W.World.history c.args.world.now) (g.W.World.history c.open.new.world) =
-    begun c.args.program.now g.W.World.tells c.in_ok-store.store c.bind.new.self (g.W.World.history c.args.world.now) (g.W.World.history c.open.new.world) c.in_ok-store.ensures.read
+    bound-begun c.args.program.now g.W.World.tells c.in_ok-store.store c.bind.new.self (g.W.World.history c.args.world.now) (g.W.World.history c.open.new.world) c.in_ok-store.ensures.read
     c.in_ok-store.ensures.database c.bind.ensures.committed
     (matched-true c.args.program.now.relation c.in_ok-store.store c.bind.new.self c.in_ok-is_bound.is_bound (now (g.W.World.history c.args.world.now)) c.in_ok-is_bound.ensures.bound c.if-not-is_bound.false).0
     (λ told. open-kept (now (g.W.World.history c.open.new.world)) (now (g.W.World.history c.open.new.world)) c.in_ok-store.store c.bind.new.self refl c.bind.ensures.log c.bind.ensures.committed
@@ -454,7 +470,7 @@ returns-clause-complete g c =
 pub returns-clause-ended : goal.returns-clause-ended
 returns-clause-ended g c =
     let begins : HasBegun c.args.program.now g.W.World.tells c.bind.new.self (g.W.World.history c.args.world.now) (g.W.World.history c.open.new.world) =
-    begun c.args.program.now g.W.World.tells c.in_ok-store.store c.bind.new.self (g.W.World.history c.args.world.now) (g.W.World.history c.open.new.world) c.in_ok-store.ensures.read
+    bound-begun c.args.program.now g.W.World.tells c.in_ok-store.store c.bind.new.self (g.W.World.history c.args.world.now) (g.W.World.history c.open.new.world) c.in_ok-store.ensures.read
     c.in_ok-store.ensures.database c.bind.ensures.committed
     (matched-true c.args.program.now.relation c.in_ok-store.store c.bind.new.self c.in_ok-is_bound.is_bound (now (g.W.World.history c.args.world.now)) c.in_ok-is_bound.ensures.bound c.if-not-is_bound.false).0
     (λ told. open-kept (now (g.W.World.history c.open.new.world)) (now (g.W.World.history c.open.new.world)) c.in_ok-store.store c.bind.new.self refl c.bind.ensures.log c.bind.ensures.committed
@@ -466,7 +482,7 @@ returns-clause-ended g c =
 pub returns-clause-not_store_where : goal.returns-clause-not_store_where
 returns-clause-not_store_where g c =
     let begins : HasBegun c.args.program.now g.W.World.tells c.bind.new.self (g.W.World.history c.args.world.now) (g.W.World.history c.open.new.world) =
-    begun c.args.program.now g.W.World.tells c.in_ok-store.store c.bind.new.self (g.W.World.history c.args.world.now) (g.W.World.history c.open.new.world) c.in_ok-store.ensures.read
+    bound-begun c.args.program.now g.W.World.tells c.in_ok-store.store c.bind.new.self (g.W.World.history c.args.world.now) (g.W.World.history c.open.new.world) c.in_ok-store.ensures.read
     c.in_ok-store.ensures.database c.bind.ensures.committed
     (matched-true c.args.program.now.relation c.in_ok-store.store c.bind.new.self c.in_ok-is_bound.is_bound (now (g.W.World.history c.args.world.now)) c.in_ok-is_bound.ensures.bound c.if-not-is_bound.false).0
     (λ told. open-kept (now (g.W.World.history c.open.new.world)) (now (g.W.World.history c.open.new.world)) c.in_ok-store.store c.bind.new.self refl c.bind.ensures.log c.bind.ensures.committed
@@ -478,7 +494,7 @@ returns-clause-not_store_where g c =
 pub returns-clause-damaged_where : goal.returns-clause-damaged_where
 returns-clause-damaged_where g c =
     let begins : HasBegun c.args.program.now g.W.World.tells c.bind.new.self (g.W.World.history c.args.world.now) (g.W.World.history c.open.new.world) =
-    begun c.args.program.now g.W.World.tells c.in_ok-store.store c.bind.new.self (g.W.World.history c.args.world.now) (g.W.World.history c.open.new.world) c.in_ok-store.ensures.read
+    bound-begun c.args.program.now g.W.World.tells c.in_ok-store.store c.bind.new.self (g.W.World.history c.args.world.now) (g.W.World.history c.open.new.world) c.in_ok-store.ensures.read
     c.in_ok-store.ensures.database c.bind.ensures.committed
     (matched-true c.args.program.now.relation c.in_ok-store.store c.bind.new.self c.in_ok-is_bound.is_bound (now (g.W.World.history c.args.world.now)) c.in_ok-is_bound.ensures.bound c.if-not-is_bound.false).0
     (λ told. open-kept (now (g.W.World.history c.open.new.world)) (now (g.W.World.history c.open.new.world)) c.in_ok-store.store c.bind.new.self refl c.bind.ensures.log c.bind.ensures.committed
@@ -490,7 +506,7 @@ returns-clause-damaged_where g c =
 pub returns-clause-differs_where : goal.returns-clause-differs_where
 returns-clause-differs_where g c =
     let begins : HasBegun c.args.program.now g.W.World.tells c.bind.new.self (g.W.World.history c.args.world.now) (g.W.World.history c.open.new.world) =
-    begun c.args.program.now g.W.World.tells c.in_ok-store.store c.bind.new.self (g.W.World.history c.args.world.now) (g.W.World.history c.open.new.world) c.in_ok-store.ensures.read
+    bound-begun c.args.program.now g.W.World.tells c.in_ok-store.store c.bind.new.self (g.W.World.history c.args.world.now) (g.W.World.history c.open.new.world) c.in_ok-store.ensures.read
     c.in_ok-store.ensures.database c.bind.ensures.committed
     (matched-true c.args.program.now.relation c.in_ok-store.store c.bind.new.self c.in_ok-is_bound.is_bound (now (g.W.World.history c.args.world.now)) c.in_ok-is_bound.ensures.bound c.if-not-is_bound.false).0
     (λ told. open-kept (now (g.W.World.history c.open.new.world)) (now (g.W.World.history c.open.new.world)) c.in_ok-store.store c.bind.new.self refl c.bind.ensures.log c.bind.ensures.committed
@@ -502,7 +518,7 @@ returns-clause-differs_where g c =
 pub returns-clause-unbound : goal.returns-clause-unbound
 returns-clause-unbound g c =
     let begins : HasBegun c.args.program.now g.W.World.tells c.bind.new.self (g.W.World.history c.args.world.now) (g.W.World.history c.open.new.world) =
-    begun c.args.program.now g.W.World.tells c.in_ok-store.store c.bind.new.self (g.W.World.history c.args.world.now) (g.W.World.history c.open.new.world) c.in_ok-store.ensures.read
+    bound-begun c.args.program.now g.W.World.tells c.in_ok-store.store c.bind.new.self (g.W.World.history c.args.world.now) (g.W.World.history c.open.new.world) c.in_ok-store.ensures.read
     c.in_ok-store.ensures.database c.bind.ensures.committed
     (matched-true c.args.program.now.relation c.in_ok-store.store c.bind.new.self c.in_ok-is_bound.is_bound (now (g.W.World.history c.args.world.now)) c.in_ok-is_bound.ensures.bound c.if-not-is_bound.false).0
     (λ told. open-kept (now (g.W.World.history c.open.new.world)) (now (g.W.World.history c.open.new.world)) c.in_ok-store.store c.bind.new.self refl c.bind.ensures.log c.bind.ensures.committed
@@ -518,3 +534,7 @@ returns-clause-only g c =
 pub returns-clause-counts : goal.returns-clause-counts
 returns-clause-counts g c =
     counts-then _ _ _ (disk-counts _ _ c.open.ensures.counts) c.run_body.ensures.counts
+
+pub returns-clause-out_fault_where : goal.returns-clause-out_fault_where
+returns-clause-out_fault_where g c =
+    inr (fine-where c.run_body.result _ c.in_ok-run_body.was c.run_body.ensures.out_fault_where ∙ disk-fine _ _ c.open.ensures.counts)

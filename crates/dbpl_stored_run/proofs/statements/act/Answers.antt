@@ -1,9 +1,10 @@
 -- Each statement by its kind.
 use Rattle.std.proofs.Common.{◌∙◌, ap, refl}
-use Rattle.dbpl_core.specs.Meaning.{before_zero}
+use Rattle.dbpl_stored_program.specs.Meaning.{before_zero}
 use Rattle.dbpl_store.specs.Stores.{committed_of, database_in}
 use Rattle.dbpl_stored_run.proofs.Acting.{printed-last, printed-made, printed-moments, printed-open, prints-line, prints-text}
-use Rattle.dbpl_stored_run.proofs.Answering.{after-ok, disk-counts, on-this, printed-no_disk_fault, printed-no_trap, say-counts}
+use Rattle.dbpl_stored_run.proofs.Answering.{after-ok, on-this, printed-no_disk_fault, printed-no_trap, say-counts}
+use Rattle.dbpl_stored_run.proofs.WrittenOut.{print-where}
 use Rattle.dbpl_stored_run.proofs.statements.act.Goals as goal
 
 pub returns-in-WriteLn-clause-moments : goal.returns-in-WriteLn-clause-moments
@@ -168,10 +169,13 @@ pub returns-in-Transact-clause-disk_fault : goal.returns-in-Transact-clause-disk
 returns-in-Transact-clause-disk_fault g c = c.transact.ensures.disk_fault
 
 pub returns-in-Transact-clause-counts : goal.returns-in-Transact-clause-counts
-returns-in-Transact-clause-counts g c = disk-counts _ _ c.transact.ensures.counts
+returns-in-Transact-clause-counts g c = c.transact.ensures.counts
 
 pub returns-in-Transact-clause-out_fault : goal.returns-in-Transact-clause-out_fault
-returns-in-Transact-clause-out_fault g c = λ is. absurd (c.transact.ensures.no_out_fault is)
+returns-in-Transact-clause-out_fault g c = c.transact.ensures.out_fault
+
+pub returns-in-Transact-clause-out_fault_where : goal.returns-in-Transact-clause-out_fault_where
+returns-in-Transact-clause-out_fault_where g c = c.transact.ensures.out_fault_where
 
 pub returns-in-WriteLn-clause-only : goal.returns-in-WriteLn-clause-only
 returns-in-WriteLn-clause-only g c = c.print.ensures.only
@@ -184,3 +188,11 @@ returns-in-WriteString-clause-only g c = c.print-in-WriteString.ensures.only
 
 pub returns-in-WriteString-clause-same : goal.returns-in-WriteString-clause-same
 returns-in-WriteString-clause-same g c = c.print-in-WriteString.ensures.same
+
+pub returns-in-WriteLn-clause-out_fault_where : goal.returns-in-WriteLn-clause-out_fault_where
+returns-in-WriteLn-clause-out_fault_where g c =
+    print-where c.print.result c.print.ensures.err c.print.ensures.fine
+
+pub returns-in-WriteString-clause-out_fault_where : goal.returns-in-WriteString-clause-out_fault_where
+returns-in-WriteString-clause-out_fault_where g c =
+    print-where c.print-in-WriteString.result c.print-in-WriteString.ensures.err c.print-in-WriteString.ensures.fine

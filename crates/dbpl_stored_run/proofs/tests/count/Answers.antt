@@ -1,7 +1,7 @@
 -- The variable that was read can be kept.
 use Rattle.std.proofs.Common.{◌&&◌}
 use Rattle.std.specs.Cmp.{first_so}
-use Rattle.dbpl_database.specs.Databases.{are_small, is_kept}
+use Rattle.dbpl_value.specs.Databases.{are_small, is_kept}
 use Rattle.dbpl_value.specs.Values.{is_of}
 use Rattle.dbpl_stored_run.proofs.tests.count.Goals as goal
 

@@ -2,7 +2,7 @@ use Rattle.std.proofs.Common.{◌≡◌, true, List, [], ◌∷◌, ◌++◌, �
 use Rattle.std.proofs.lemmas.List.Folds.{list_all-append}
 use Rattle.std.specs.Cmp.{first_so, second_so}
 use Rattle.std.specs.List.{list_all}
-use Rattle.dbpl_database.specs.Databases.{is_bound, is_database}
+use Rattle.dbpl_value.specs.Databases.{is_bound, is_database}
 use Rattle.dbpl_value.specs.declared.bound.Bound.{Bound}
 use Rattle.dbpl_stored_run.proofs.tests.variable.Goals as goal
 

@@ -1,6 +1,6 @@
 -- The variable that is bound is the one of the program's name.
 use Rattle.std.proofs.Common.{◌∙◌, Err, ap}
-use Rattle.dbpl_core.specs.declared.run_err.RunErr.TheVariants as run_errors
+use Rattle.dbpl_stored_program.specs.declared.run_err.RunErr.TheVariants as run_errors
 use Rattle.dbpl_stored_run.proofs.Answering.{err-inside, handed}
 use Rattle.dbpl_stored_run.proofs.Stores.{fits-in, fits-of, held-bound, put-is, some-bound, transacted-is}
 use Rattle.dbpl_stored_run.proofs.transacting.change.Goals as goal

@@ -1,9 +1,0 @@
--- Rule by rule.
-use Rattle.dbpl_core.proofs.Kept.{flat-is_flat, flat-kept}
-use Rattle.dbpl_core.proofs.laws.flat_type_is_kept.Goals as goal
-
-pub returns-clause-kept : goal.returns-clause-kept
-returns-clause-kept c = flat-kept
-
-pub returns-clause-flat : goal.returns-clause-flat
-returns-clause-flat c = flat-is_flat

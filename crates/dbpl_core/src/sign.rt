@@ -1,0 +1,8 @@
+/// What stands before a term.
+#[derive(Clone, Copy)]
+pub enum Sign {
+    /// `+`
+    Plus,
+    /// `-`
+    Minus,
+}

@@ -1,0 +1,9 @@
+pub mod Adding
+pub mod Databases
+pub mod Kept
+pub mod Programs
+pub mod Rows
+pub mod Sizes
+pub mod Statements
+pub mod Steady
+pub mod Turns

@@ -1,0 +1,5 @@
+pub mod Insertions
+pub mod Meaning
+pub mod Programs
+pub mod Sets
+pub mod Whole
