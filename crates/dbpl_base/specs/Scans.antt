@@ -1,9 +1,7 @@
 -- A text is gaps and tokens in turn. This relation says which tokens a text has.
-use Rattle.std.specs.Prelude.{◌≡◌, ◌≢◌, ℕ, List, [], ◌∷◌, ◌++◌, IsTrue, map, codes}
-use Rattle.std.specs.List.{list_all}
-use Rattle.dbpl_base.specs.Places.{place_after, start_of}
+use Rattle.std.specs.Prelude.{◌≡◌, ◌≢◌, ℕ, List, [], ◌∷◌, ◌++◌, map, codes}
+use Rattle.dbpl_base.specs.Places.{place_after}
 use Rattle.dbpl_base.specs.Spelling.{Spells}
-use Rattle.dbpl_base.specs.Words.{is_blank}
 use Rattle.dbpl_base.specs.declared.lexeme.Lexeme.{Lexeme}
 use Rattle.dbpl_base.specs.declared.lexeme.Lexeme.TheVariants.{Finish}
 use Rattle.dbpl_base.specs.declared.place.Place.{Place}

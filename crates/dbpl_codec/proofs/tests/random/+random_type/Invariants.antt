@@ -1,4 +1,0 @@
-use Rattle.dbpl_codec.proofs.tests.random.+random_type.Given as goal
-
-abbrev pub decreases-random_type : goal.decreases-random_type
-decreases-random_type l = l.depth
