@@ -6,8 +6,8 @@ use Rattle.dbpl_base.specs.declared.lexeme.Lexeme.{Lexeme}
 use Rattle.dbpl_base.specs.declared.lexeme.Lexeme.TheVariants as lexemes
 use Rattle.dbpl_base.specs.declared.place.Place.{Place}
 use Rattle.dbpl_alone.proofs.Tests.{empty_is, name_is, same_bytes, under, unlike_imported}
-use Rattle.dbpl_alone.specs.Program.{IsSmall, spell as small_spell, spell_statement, spell_statements}
-use Rattle.dbpl_alone.specs.Small.{call_of, has_frame, in_front, is_imported, is_line_import, is_one_import, is_one_name, small_body, small_module, small_of, small_statement, small_statements, statement_level as small_level}
+use Rattle.dbpl_alone.specs.Program.{IsSmall, spell_module as small_spell, spell_statement, spell_statements}
+use Rattle.dbpl_alone.specs.Small.{call_of, has_frame, in_front, is_imported, is_line_import, is_one_import, is_one_name, small_body, small_module, small_of, small_statement, small_statements, small_level}
 use Rattle.dbpl_tree.specs.Plain.{argument_of, has_name, is_empty, is_factor, is_name, only_string, string_of, text_level}
 use Rattle.dbpl_alone.specs.declared.program.Program.{Program}
 use Rattle.dbpl_alone.specs.declared.statement.Statement.{Statement as Small}

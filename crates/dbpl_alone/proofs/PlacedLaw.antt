@@ -7,7 +7,7 @@ use Rattle.dbpl_base.specs.declared.place.Place.{Place}
 use Rattle.dbpl_base.specs.declared.token.Token.{Token}
 use Rattle.dbpl_alone.proofs.Tests.{bytes_same, imported_unlike}
 use Rattle.dbpl_alone.proofs.UnitLaw.{text-marks}
-use Rattle.dbpl_alone.specs.Program.{IsSmall, spell, spell_statement, spell_statements}
+use Rattle.dbpl_alone.specs.Program.{IsSmall, spell_module, spell_statement, spell_statements}
 use Rattle.dbpl_alone.specs.Small.{in_front, is_imported, small_of, small_statement, small_statements}
 use Rattle.dbpl_alone.specs.Units.{string}
 use Rattle.dbpl_alone.specs.declared.program.Program.{Program}
@@ -310,7 +310,7 @@ module _ (name : List ℕ) (first : Small) (others : List Small) where
   abbrev body_of : Placed → Body
   body_of x = x.1.1.1.1.1.1
 
-  module_found : (tokens : List Token) → lexemes_of tokens ≡ spell whole → Found module_marks_of tokens
+  module_found : (tokens : List Token) → lexemes_of tokens ≡ spell_module whole → Found module_marks_of tokens
   module_found = placed_found word_module _ (placed_found (lexemes.Ident name) _ (word_found semicolon _ import_found))
 
   abbrev tree : Placed → Tree
@@ -335,7 +335,7 @@ module _ (name : List ℕ) (first : Small) (others : List Small) where
       let found = (body_of x).found in
       rw (unlike, bytes_same name, bytes_same in_out, bytes_same write_string, bytes_same write_ln, found) refl
 
-  spelt : is_imported name ≡ false → (tokens : List Token) → lexemes_of tokens ≡ spell whole → Spelt tokens whole
+  spelt : is_imported name ≡ false → (tokens : List Token) → lexemes_of tokens ≡ spell_module whole → Spelt tokens whole
   spelt unlike tokens e =
       let found = module_found tokens e in
       let body = body_of found.of in
@@ -345,11 +345,11 @@ module _ (name : List ℕ) (first : Small) (others : List Small) where
         small = tree_small unlike found.of;
       }
 
-pub tokens_spelt : (tokens : List Token) (program : Program) → IsSmall program → lexemes_of tokens ≡ spell program → Spelt tokens program
+pub tokens_spelt : (tokens : List Token) (program : Program) → IsSmall program → lexemes_of tokens ≡ spell_module program → Spelt tokens program
 tokens_spelt tokens program is e =
     by_statements program.name program.statements (imported_unlike program.name is.unlike_in_out is.unlike_write_string is.unlike_write_ln) is.some e
   where
     by_statements : (name : List ℕ) (smalls : List Small) → is_imported name ≡ false → smalls ≢ [] →
-        lexemes_of tokens ≡ spell (record { name = name; statements = smalls }) → Spelt tokens (record { name = name; statements = smalls })
+        lexemes_of tokens ≡ spell_module (record { name = name; statements = smalls }) → Spelt tokens (record { name = name; statements = smalls })
     by_statements name [] unlike some e = absurd (some refl)
     by_statements name (first ∷ others) unlike some e = spelt name first others unlike tokens e

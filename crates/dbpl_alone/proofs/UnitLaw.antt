@@ -3,7 +3,7 @@ use Rattle.std.proofs.Common.{◌≡◌, ℕ, List, [], ◌∷◌, ◌++◌, map
 use Rattle.dbpl_base.specs.declared.lexeme.Lexeme.{Lexeme}
 use Rattle.dbpl_base.specs.declared.lexeme.Lexeme.TheVariants as lexemes
 use Rattle.dbpl_base.specs.declared.place.Place.{Place}
-use Rattle.dbpl_alone.specs.Program.{spell as small_spell, spell_heading, spell_statement, spell_statements}
+use Rattle.dbpl_alone.specs.Program.{spell_module as small_spell, spell_heading, spell_statement, spell_statements}
 use Rattle.dbpl_alone.specs.Units.{statement_of, statements_of, string, unit_of}
 use Rattle.dbpl_alone.specs.declared.program.Program.{Program}
 use Rattle.dbpl_alone.specs.declared.statement.Statement.{Statement as Small}

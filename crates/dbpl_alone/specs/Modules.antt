@@ -4,7 +4,7 @@ use Rattle.dbpl_alone.specs.Small.{small_of}
 use Rattle.dbpl_alone.specs.declared.program.Program.{Program}
 use Rattle.dbpl_base.specs.Places.{start_of}
 use Rattle.dbpl_base.specs.declared.place.Place.{Place}
-use Rattle.dbpl_front.specs.Texts.{IsMisspelt, SpellsUnit}
+use Rattle.dbpl_front.specs.Texts.{IsMisspelt, SpellsText}
 use Rattle.dbpl_front.specs.declared.front_err.FrontErr.{FrontErr}
 use Rattle.dbpl_front.specs.declared.front_err.FrontErr.TheVariants as errors
 use Rattle.dbpl_tree.specs.declared.unit.Unit.{Unit as Tree}
@@ -12,7 +12,7 @@ use Rattle.dbpl_tree.specs.declared.unit.Unit.{Unit as Tree}
 -- THE texts that can be run: the text spells a unit, and that is this module.
 pub record IsModule (text : List ℕ) (program : Program) : Type 0 where
   pub unit : Tree
-  pub spelt : SpellsUnit 0 text unit
+  pub spelt : SpellsText 0 text unit
   pub small : small_of unit ≡ Some program
 
 -- no module that can be run so far has this text
@@ -24,7 +24,7 @@ IsNoModule text = (program : Program) → ¬ IsModule text program
 -- The text spells a unit, but it is none that can be run so far.
 pub record IsUnbuilt (text : List ℕ) : Type 0 where
   pub unit : Tree
-  pub spelt : SpellsUnit 0 text unit
+  pub spelt : SpellsText 0 text unit
   pub other : small_of unit ≡ None
 
 -- THE causes: why the text is refused at this place by the rule of this number, L1, L2, L3 or L9

@@ -33,7 +33,7 @@ spell_heading name =
     Ident write_ln ∷ semicolon ∷ word_begin ∷ []
 
 -- THE spelling of such a module, with the end of its text
-abbrev pub spell : Program → List Lexeme
-spell program =
+abbrev pub spell_module : Program → List Lexeme
+spell_module program =
     spell_heading program.name ++ spell_statements program.statements ++ word_end ∷ Ident program.name ∷ full_stop ∷
     Finish ∷ []

@@ -25,13 +25,13 @@ abbrev pub call_of : DesignatorOf Factor → Option (ArgumentsOf Factor) → Opt
 call_of d None = if is_name write_ln d then Some WriteLn else None
 call_of d (Some a) = if is_name write_string d then option_map WriteString (argument_of a) else None
 
-abbrev pub statement_level : Statement-F Statement → Option Small
-statement_level (kinds.Call d a) = call_of d a
-statement_level _ = None
+abbrev pub small_level : Statement-F Statement → Option Small
+small_level (kinds.Call d a) = call_of d a
+small_level _ = None
 
 -- the statement of the form that this one is
 abbrev pub small_statement : Statement → Option Small
-small_statement s = statement_level (out-Statement s)
+small_statement s = small_level (out-Statement s)
 
 -- this one and those behind it, if there are both
 abbrev pub in_front : Option Small → Option (List Small) → Option (List Small)

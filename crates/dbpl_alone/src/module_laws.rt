@@ -1,7 +1,7 @@
 // Laws of the modules that can be run so far. The functions do nothing: their contracts are the laws.
 ghost use Rattle.std.specs.Prelude.{◌≡◌, ℕ, List, Some};
 ghost use Rattle.dbpl_alone.specs.Modules.{IsModule, IsRefused};
-ghost use Rattle.dbpl_alone.specs.Program.{IsSmall, spell};
+ghost use Rattle.dbpl_alone.specs.Program.{IsSmall, spell_module};
 ghost use Rattle.dbpl_alone.specs.Small.{small_of};
 ghost use Rattle.dbpl_alone.specs.Units.{unit_of};
 ghost use Rattle.dbpl_alone.specs.declared.program.Program.{Program};
@@ -9,7 +9,7 @@ ghost use Rattle.dbpl_base.specs.Scans.{lexemes_of};
 ghost use Rattle.dbpl_base.specs.declared.place.Place.{Place};
 ghost use Rattle.dbpl_base.specs.declared.token.Token.{Token};
 ghost use Rattle.dbpl_scan.specs.Comments.{Scans};
-ghost use Rattle.dbpl_tree.specs.Units.{spell as whole_spell};
+ghost use Rattle.dbpl_tree.specs.Units.{spell_module as whole_spell};
 ghost use Rattle.dbpl_tree.specs.declared.unit.Unit.{Unit as Tree};
 
 /// A text has one answer: it is one module, or it is refused at one place by one rule.
@@ -23,7 +23,7 @@ pub fn one_answer()
 pub fn one_form()
     ensures found { (place : Place) (program : Program) → IsSmall program → small_of (unit_of place program) ≡ Some program }
     ensures small { (unit : Tree) (program : Program) → small_of unit ≡ Some program → IsSmall program }
-    ensures spelled { (unit : Tree) (program : Program) → small_of unit ≡ Some program → whole_spell unit ≡ spell program }
-    ensures spelling { (place : Place) (program : Program) → whole_spell (unit_of place program) ≡ spell program }
-    ensures texts { (text : List ℕ) (tokens : List Token) (program : Program) → IsSmall program → Scans 0 text tokens → lexemes_of tokens ≡ spell program → IsModule text program }
+    ensures spelled { (unit : Tree) (program : Program) → small_of unit ≡ Some program → whole_spell unit ≡ spell_module program }
+    ensures spelling { (place : Place) (program : Program) → whole_spell (unit_of place program) ≡ spell_module program }
+    ensures texts { (text : List ℕ) (tokens : List Token) (program : Program) → IsSmall program → Scans 0 text tokens → lexemes_of tokens ≡ spell_module program → IsModule text program }
 {}

@@ -5,7 +5,7 @@ use Rattle.dbpl_base.specs.declared.place.Place.{Place}
 use Rattle.dbpl_base.specs.declared.token.Token.{Token}
 use Rattle.dbpl_front.proofs.TextLaw.{scans_end, unit_or_misspelt}
 use Rattle.dbpl_front.specs.Errors.{of_parse, of_scan}
-use Rattle.dbpl_front.specs.Texts.{IsUnparsed, IsUnspelt, SpellsUnit}
+use Rattle.dbpl_front.specs.Texts.{IsUnparsed, IsUnspelt, SpellsText}
 use Rattle.dbpl_front.specs.declared.front_err.FrontErr.{FrontErr}
 use Rattle.dbpl_front.specs.declared.front_err.FrontErr.TheVariants as errors
 use Rattle.dbpl_grammar.specs.Laws.{HasEnd, IsText}
@@ -54,7 +54,7 @@ parse_unspelt number text tokens (syntax.Deep place) scanned reads refused place
 parse_unspelt number text tokens syntax.Memory scanned reads refused placed = tt
 
 -- a text that is refused spells no unit
-pub unspelt_no_unit : (number : ℕ) (text : List ℕ) (error : FrontErr) → IsUnspelt number text error → error ≢ errors.Memory → (unit : Tree) → ¬ SpellsUnit number text unit
+pub unspelt_no_unit : (number : ℕ) (text : List ℕ) (error : FrontErr) → IsUnspelt number text error → error ≢ errors.Memory → (unit : Tree) → ¬ SpellsText number text unit
 unspelt_no_unit number text (errors.Refused refusal) cause some unit spelt =
     unit_or_misspelt number text unit refusal.place refusal.rule spelt cause
 unspelt_no_unit number text errors.Memory cause some unit spelt = absurd (some refl)

@@ -4,7 +4,7 @@ use Rattle.dbpl_base.specs.Places.{place_after, start_of}
 use Rattle.dbpl_base.specs.Scans.{ScansFrom}
 use Rattle.dbpl_base.specs.declared.place.Place.{Place}
 use Rattle.dbpl_base.specs.declared.token.Token.{Token}
-use Rattle.dbpl_front.specs.Texts.{HasNoTokens, HasNoUnit, IsMisspelt, IsUnparsed, IsUnscanned, SpellsUnit}
+use Rattle.dbpl_front.specs.Texts.{HasNoTokens, HasNoUnit, IsMisspelt, IsUnparsed, IsUnscanned, SpellsText}
 use Rattle.dbpl_grammar.proofs.WholeLaw.{one_unit}
 use Rattle.dbpl_grammar.specs.Laws.{HasEnd, IsText}
 use Rattle.dbpl_grammar.specs.Reading.{Refused}
@@ -71,18 +71,18 @@ one_place unit text here place b o =
 
 -- ---- units
 
-pub one_tree : (number : ℕ) (text : List ℕ) (first second : Tree) → SpellsUnit number text first → SpellsUnit number text second → first ≡ second
+pub one_tree : (number : ℕ) (text : List ℕ) (first second : Tree) → SpellsText number text first → SpellsText number text second → first ≡ second
 one_tree number text first second h k =
     let tokens = one_scan number text k.tokens h.tokens k.scanned h.scanned in
     let spelled = subst (λ (ts : List Token). IsText ts second) tokens k.spelled in
     one_unit h.tokens first second h.spelled.0 spelled.0
 
-unit_parsed : (number : ℕ) (text : List ℕ) (unit : Tree) (error : ParseErr) → SpellsUnit number text unit → IsUnparsed number text error → ⊥
+unit_parsed : (number : ℕ) (text : List ℕ) (unit : Tree) (error : ParseErr) → SpellsText number text unit → IsUnparsed number text error → ⊥
 unit_parsed number text unit error h u =
     let tokens = one_scan number text h.tokens u.tokens h.scanned u.scanned in
     u.none unit (subst (λ (ts : List Token). IsText ts unit) tokens h.spelled)
 
-pub unit_or_misspelt : (number : ℕ) (text : List ℕ) (unit : Tree) (place : Place) (rule : ℕ) → SpellsUnit number text unit → IsMisspelt number text place rule → ⊥
+pub unit_or_misspelt : (number : ℕ) (text : List ℕ) (unit : Tree) (place : Place) (rule : ℕ) → SpellsText number text unit → IsMisspelt number text place rule → ⊥
 unit_or_misspelt number text unit place rule h (inl u) = u.1.none h.tokens h.scanned
 unit_or_misspelt number text unit place rule h (inr (inl u)) = unit_parsed number text unit (syntax.Syntax place) h u.1
 unit_or_misspelt number text unit place rule h (inr (inr u)) = unit_parsed number text unit (syntax.Deep place) h u.1
@@ -122,7 +122,7 @@ no_tokens_misspelt number text place rule none (inl u) = u
 no_tokens_misspelt number text place rule none (inr (inl u)) = absurd (none u.1.tokens u.1.scanned)
 no_tokens_misspelt number text place rule none (inr (inr u)) = absurd (none u.1.tokens u.1.scanned)
 
-pub no_unit_unit : (number : ℕ) (text : List ℕ) (unit : Tree) → HasNoUnit number text → SpellsUnit number text unit → ⊥
+pub no_unit_unit : (number : ℕ) (text : List ℕ) (unit : Tree) → HasNoUnit number text → SpellsText number text unit → ⊥
 no_unit_unit number text unit h s =
     let tokens = one_scan number text s.tokens h.tokens s.scanned h.scanned in
     h.none unit (subst (λ (ts : List Token). IsText ts unit) tokens s.spelled)

@@ -16,7 +16,7 @@ use Rattle.dbpl_scan.specs.Comments.{Scans}
 use Rattle.dbpl_tree.specs.declared.unit.Unit.{Unit as Tree}
 
 -- The text has tokens, and they spell this unit. The number is that of the text among those of a command; places have it.
-pub record SpellsUnit (number : ℕ) (text : List ℕ) (unit : Tree) : Type 0 where
+pub record SpellsText (number : ℕ) (text : List ℕ) (unit : Tree) : Type 0 where
   pub tokens : List Token
   pub scanned : Scans number text tokens
   pub spelled : IsText tokens unit

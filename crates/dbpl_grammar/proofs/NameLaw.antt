@@ -7,11 +7,11 @@ use Rattle.dbpl_tree.specs.Words.{comma, full_stop}
 use Rattle.dbpl_tree.specs.declared.ident.Ident.{Ident}
 use Rattle.dbpl_tree.specs.declared.ident.Idents.{Idents}
 use Rattle.dbpl_tree.specs.declared.ident.Qual.{Qual}
-use Rattle.dbpl_grammar.specs.Expressions.{char_code_of, ident, ident_first, idents, name_of, number_of, qual, text_of}
+use Rattle.dbpl_grammar.specs.Expressions.{char_code_of, ident, ident_first, idents, identifier_of, number_of, qual, text_of}
 use Rattle.dbpl_grammar.proofs.Every.{Every, all_those, both, made, maybe, shallow_list, shallow_option}
 use Rattle.dbpl_grammar.proofs.TokenLaw.{law_after, law_here, law_leaf}
 
-pub name_is : (l : Lexeme) (x : List ℕ) → name_of l ≡ Some x → l ≡ lexemes.Ident x
+pub name_is : (l : Lexeme) (x : List ℕ) → identifier_of l ≡ Some x → l ≡ lexemes.Ident x
 name_is (lexemes.Ident name) x e = ap (λ (o : Option (List ℕ)). lexemes.Ident (or_none o)) e
   where
     or_none : Option (List ℕ) → List ℕ
@@ -66,7 +66,7 @@ text_is lexemes.Finish x e = absurd (let no : None ≡ Some x = e in cc)
 pub law_ident : (limit : ℕ) → Every ident_marks (λ (x : Ident). 0) limit ident_first [] false ident
 unfolding ident
 law_ident limit =
-    made ident_marks (λ (x : Ident). 0) (both (law_here limit) (law_leaf limit name_of lexemes.Ident ident_first [] refl (λ x. refl) name_is (λ x. refl)) refl) (λ found. record { place = found.0; name = found.1 }) (λ x. (x.place, x.name)) (λ x. refl) (λ x. refl) (λ x. refl)
+    made ident_marks (λ (x : Ident). 0) (both (law_here limit) (law_leaf limit identifier_of lexemes.Ident ident_first [] refl (λ x. refl) name_is (λ x. refl)) refl) (λ found. record { place = found.0; name = found.1 }) (λ x. (x.place, x.name)) (λ x. refl) (λ x. refl) (λ x. refl)
 
 pub law_idents : (limit : ℕ) → Every idents_marks (λ (x : Idents). 0) limit ident_first (comma ∷ []) false idents
 unfolding idents

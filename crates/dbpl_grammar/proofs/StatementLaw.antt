@@ -30,7 +30,7 @@ use Rattle.dbpl_tree.specs.declared.statements.StatementsOf.{StatementsOf}
 use Rattle.dbpl_grammar.specs.Expressions.{Inner, arguments, expr_first, ident_first}
 use Rattle.dbpl_grammar.specs.Lexemes.{an_ident}
 use Rattle.dbpl_grammar.specs.Reading.{Parser, ◌<$>◌, ◌⊗◌, after, here, leaf, many, optional}
-use Rattle.dbpl_grammar.specs.Statements.{Acts, Calls, Changes, Counts, Loops, Ranges, action, action_made, acts, case_statement, case_with, change_first, change_of, counts, elsif, exit_statement, for_made, for_statement, if_statement, label, loop_statement, otherwise, ranges, repeat_statement, return_statement, statement_with, statement_words, statements_after, statements_at, statements_with, while_statement}
+use Rattle.dbpl_grammar.specs.Statements.{Acts, Calls, Changes, Counts, Loops, Ranges, action, action_made, acts, case_statement, case_by, change_first, change_of, counts, elsif, exit_statement, for_made, for_statement, if_statement, label, loop_statement, otherwise, ranges, repeat_statement, return_statement, statement_by, statement_words, statements_after, statements_at, statements_by, while_statement}
 use Rattle.dbpl_grammar.proofs.Ready.{ready_statements}
 use Rattle.dbpl_grammar.proofs.ChoiceLaw.{law_all, law_counted, law_deep, law_either, law_wider}
 use Rattle.dbpl_grammar.proofs.Every.{Every, all_those, both, made, maybe, variant}
@@ -230,8 +230,8 @@ module _ {limit : ℕ} {inner : Inner} {statements : Parser (StatementsOf Statem
   law_no_case =
       law_wider [] statements_more refl refl (variant (case_marks statement_marks) (case_depth statement_depth) (law_here limit) cases.Empty (λ x. refl) (λ x. refl))
 
-  law_case : Every (case_marks statement_marks) (case_depth statement_depth) limit expr_first statements_more true (case_with inner statements)
-  unfolding case_with
+  law_case : Every (case_marks statement_marks) (case_depth statement_depth) limit expr_first statements_more true (case_by inner statements)
+  unfolding case_by
   law_case = law_all (λ (y : CaseOf Statement). Unit {0}) (λ y is. by_case y) (λ y is. tt) (law_either law_labelled law_no_case refl)
     where
       by_case : (y : CaseOf Statement) → ((x : Label × (List Label × Body)) × (cases.Labelled x.0 x.1.0 x.1.1 ≡ y)) ⊎ ((x : Place) × (cases.Empty x ≡ y))
@@ -282,13 +282,13 @@ module _ {limit : ℕ} {inner : Inner} {statements : Parser (StatementsOf Statem
       by_loop (Ranges each x r e body) = inl ((each, (x, (r, (e, body)))), refl)
       by_loop (Counts x first last step body) = inr ((x, (first, (last, (step, body)))), refl)
 
-  pub law_statement : Every statement_marks statement_depth limit statement_first statement_more true (statement_with inner statements)
-  unfolding statement_with
+  pub law_statement : Every statement_marks statement_depth limit statement_first statement_more true (statement_by inner statements)
+  unfolding statement_by
   law_statement =
       law_all (λ (y : Statement). Unit {0}) (λ y is. statement_cases y) (λ y is. tt) (law_either (law_action laws) (law_either law_if (law_either law_case_statement (law_either law_while (law_either law_repeat (law_either law_loop (law_either (law_exit limit) (law_either (law_return laws) (law_either law_for (law_empty limit) refl) refl) refl) refl) refl) refl) refl) refl) refl)
 
-law_statements_with : {limit : ℕ} {statement : Parser Statement} → Every statement_marks statement_depth limit statement_first statement_more true statement → EveryStatements (suc limit) (statements_with statement)
-unfolding statements_with
+law_statements_with : {limit : ℕ} {statement : Parser Statement} → Every statement_marks statement_depth limit statement_first statement_more true statement → EveryStatements (suc limit) (statements_by statement)
+unfolding statements_by
 law_statements_with law =
     made (statements_marks statement_marks) (statements_depth statement_depth) (law_counted (both law (all_those (law_after semicolon refl law) refl) refl)) (λ found. record { first = found.0; others = found.1 }) (λ x. (x.first, x.others)) (λ x. refl) (λ x. refl) (λ x. refl)
 

@@ -18,7 +18,7 @@ use Rattle.dbpl_tree.specs.declared.type_tree.TypeTree.TheOpen as open_types
 use Rattle.dbpl_tree.specs.declared.type_tree.TypeTree.TheVariants as types
 use Rattle.dbpl_grammar.specs.Expressions.{Inner, ident_first, idents, qual}
 use Rattle.dbpl_grammar.specs.Reading.{Parser, ◌<$>◌, ◌⊗◌, after, here}
-use Rattle.dbpl_grammar.specs.Types.{array, enumeration, fields, record_type, relation_type, subrange, type_at, type_first, type_with}
+use Rattle.dbpl_grammar.specs.Types.{array, enumeration, fields, record_type, relation_type, subrange, type_at, type_first, type_by}
 use Rattle.dbpl_grammar.proofs.Ready.{ready_type}
 use Rattle.dbpl_grammar.proofs.ChoiceLaw.{law_all, law_counted, law_deep, law_either, law_wider}
 use Rattle.dbpl_grammar.proofs.Every.{Every, all_those, both, variant}
@@ -127,8 +127,8 @@ module _ {limit : ℕ} {inner : Inner} {type : Parser TypeTree} (laws : InnerLaw
   law_named_type =
       variant type_marks type_depth (law_counted (law_qual limit)) types.Named (λ x. type_as (types.Named x) _ (types.outs-Named x)) (λ x. type_deep (types.Named x) _ (types.outs-Named x))
 
-  pub law_type_with : Every type_marks type_depth (suc limit) type_first type_more false (type_with inner type)
-  unfolding type_with
+  pub law_type_with : Every type_marks type_depth (suc limit) type_first type_more false (type_by inner type)
+  unfolding type_by
   law_type_with =
       law_all (λ (y : TypeTree). Unit {0}) (λ y is. type_cases y) (λ y is. tt) (law_either law_enumeration (law_either law_subrange (law_either law_array (law_either law_record_type (law_either law_relation_type law_named_type refl) refl) refl) refl) refl)
 

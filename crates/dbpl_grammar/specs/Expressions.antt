@@ -67,9 +67,9 @@ quantifier_of = by_table quantifier_lexeme (quantifiers.Exists ∷ quantifiers.F
 
 -- ---- tokens with a content
 
-abbrev pub name_of : Lexeme → Option (List ℕ)
-name_of (lexeme.Ident name) = Some name
-name_of _ = None
+abbrev pub identifier_of : Lexeme → Option (List ℕ)
+identifier_of (lexeme.Ident name) = Some name
+identifier_of _ = None
 
 abbrev pub number_of : Lexeme → Option ℕ
 number_of (lexeme.Number n) = Some n
@@ -122,7 +122,7 @@ element_first = word_each ∷ expr_first
 -- ---- names
 
 unfoldable pub ident : Parser Ident
-ident = (λ found. record { place = found.0; name = found.1 }) <$> (here ⊗ leaf name_of)
+ident = (λ found. record { place = found.0; name = found.1 }) <$> (here ⊗ leaf identifier_of)
 
 unfoldable pub idents : Parser Idents
 idents =

@@ -41,16 +41,16 @@ statements_after = semicolon ∷ bar ∷ word_else ∷ word_elsif ∷ word_end �
 
 -- ---- over any statements
 
-unfoldable pub statements_with : {S : Type 0} → Parser S → Parser (StatementsOf S)
-statements_with statement =
+unfoldable pub statements_by : {S : Type 0} → Parser S → Parser (StatementsOf S)
+statements_by statement =
     (λ found. record { first = found.0; others = found.1 }) <$> (statement ⊗ many (semicolon ∷ []) (after semicolon statement))
 
 unfoldable pub label : Inner → Parser Label
 label inner =
     (λ found. record { low = found.0; high = found.1 }) <$> (inner.expr ⊗ optional (ellipsis ∷ []) (after ellipsis inner.expr))
 
-unfoldable pub case_with : {S : Type 0} → Inner → Parser (StatementsOf S) → Parser (CaseOf S)
-case_with inner statements =
+unfoldable pub case_by : {S : Type 0} → Inner → Parser (StatementsOf S) → Parser (CaseOf S)
+case_by inner statements =
     either expr_first ((λ found. cases.Labelled found.0 found.1.0 found.1.1) <$> (label inner ⊗ many (comma ∷ []) (after comma (label inner)) ⊗ after colon statements)) (cases.Empty <$> here)
 
 -- ELSIF e THEN ..
@@ -86,7 +86,7 @@ if_statement inner statements =
 
 unfoldable pub case_statement : Inner → Parser (StatementsOf Statement) → Parser Statement
 case_statement inner statements =
-    (λ found. of_statement.Case found.0 found.1.0 found.1.1.0 found.1.1.1.0 found.1.1.1.1) <$> (here ⊗ after word_case (inner.expr ⊗ after word_of (case_with inner statements ⊗ many (bar ∷ []) (after bar (case_with inner statements)) ⊗ closed (otherwise statements) word_end)))
+    (λ found. of_statement.Case found.0 found.1.0 found.1.1.0 found.1.1.1.0 found.1.1.1.1) <$> (here ⊗ after word_case (inner.expr ⊗ after word_of (case_by inner statements ⊗ many (bar ∷ []) (after bar (case_by inner statements)) ⊗ closed (otherwise statements) word_end)))
 
 unfoldable pub while_statement : Inner → Parser (StatementsOf Statement) → Parser Statement
 while_statement inner statements =
@@ -130,11 +130,11 @@ for_statement inner statements =
     for_made <$> (here ⊗ after word_for (either (word_each ∷ []) (ranges inner statements) (counts inner statements)))
 
 -- a statement, with these expressions and statements in it
-unfoldable pub statement_with : Inner → Parser (StatementsOf Statement) → Parser Statement
-statement_with inner statements =
+unfoldable pub statement_by : Inner → Parser (StatementsOf Statement) → Parser Statement
+statement_by inner statements =
     either ident_first (action inner) (either (word_if ∷ []) (if_statement inner statements) (either (word_case ∷ []) (case_statement inner statements) (either (word_while ∷ []) (while_statement inner statements) (either (word_repeat ∷ []) (repeat_statement inner statements) (either (word_loop ∷ []) (loop_statement statements) (either (word_exit ∷ []) exit_statement (either (word_return ∷ []) (return_statement inner) (either (word_for ∷ []) (for_statement inner statements) (of_statement.Empty <$> here)))))))))
 
 -- statements, where so many phrases may still stand inside one another
 unfoldable pub statements_at : ℕ → Parser (StatementsOf Statement)
 statements_at zero = too_deep (an_ident ∷ statement_words ++ statements_after)
-statements_at (suc depth) = statements_with (statement_with (at_depth depth) (statements_at depth))
+statements_at (suc depth) = statements_by (statement_by (at_depth depth) (statements_at depth))

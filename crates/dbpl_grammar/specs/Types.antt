@@ -39,11 +39,11 @@ relation_type =
     (λ found. types.Relation found.0 found.1.0 found.1.1) <$> (here ⊗ after word_relation (idents ⊗ after word_of qual))
 
 -- a type, with these expressions and types in it
-unfoldable pub type_with : Inner → Parser TypeTree → Parser TypeTree
-type_with inner type =
+unfoldable pub type_by : Inner → Parser TypeTree → Parser TypeTree
+type_by inner type =
     either (left_parenthesis ∷ []) enumeration (either (left_bracket ∷ []) (subrange inner) (either (word_array ∷ []) (array type) (either (word_record ∷ []) (record_type type) (either (word_relation ∷ []) relation_type (types.Named <$> qual)))))
 
 -- a type, where so many phrases may still stand inside one another
 unfoldable pub type_at : ℕ → Parser TypeTree
 type_at zero = too_deep type_first
-type_at (suc depth) = type_with (at_depth depth) (type_at depth)
+type_at (suc depth) = type_by (at_depth depth) (type_at depth)

@@ -34,7 +34,7 @@ Answers tokens (Err error) read =
     error ≢ errors.Memory → (refused : Refused) × (read ≡ Err refused) × (error ≡ error_of refused.reason refused.rest)
 
 -- what was read, or the refusal by its place
-abbrev pub answered : {A : Type 0} → List Token → Result (A × ℕ) ReadErr → Result (A × ℕ) ParseErr
+abbrev pub answered : {A : Type 0} → List Token → Result A ReadErr → Result A ParseErr
 answered tokens (Ok found) = Ok found
 answered tokens (Err error) = Err (placed tokens error)
 

@@ -25,7 +25,7 @@ use dbpl_tree::{Aggregate, Designator, Expr, Range};
 use std::alloc::Global;
 
 /// A refusal by the place of the token at which it shows.
-pub fn placed(tokens: &[Token], error: ReadErr) -> ParseErr
+fn placed(tokens: &[Token], error: ReadErr) -> ParseErr
     ensures { result ≡ calls.placed tokens.now error }
 {
     match error {
@@ -36,7 +36,7 @@ pub fn placed(tokens: &[Token], error: ReadErr) -> ParseErr
 }
 
 /// The same tree, or the refusal by its place.
-fn answered<A>(tokens: &[Token], read: Result<(A, usize), ReadErr>) -> Result<(A, usize), ParseErr>
+pub fn answered<A>(tokens: &[Token], read: Result<A, ReadErr>) -> Result<A, ParseErr>
     ensures { result ≡ calls.answered tokens.now read }
 {
     match read {

@@ -20,6 +20,6 @@ mod read_err;
 pub mod sets;
 pub mod tokens;
 
-pub use calls::{parse_aggregate, parse_designator, parse_expr, parse_range, placed};
+pub use calls::{answered, parse_aggregate, parse_designator, parse_expr, parse_range};
 pub use parse_err::ParseErr;
 pub use read_err::ReadErr;

@@ -103,7 +103,7 @@ pub fn word(tokens: &[Token], at: usize, row: u8) -> Result<usize, ReadErr>
 
 /// The bytes of an identifier.
 pub fn name(alloc: Global, tokens: &[Token], at: usize) -> Result<(Name, usize), ReadErr>
-    ensures { Reads tokens.now result (reading.leaf spec.name_of (drop at tokens.now)) }
+    ensures { Reads tokens.now result (reading.leaf spec.identifier_of (drop at tokens.now)) }
 {
     match lexeme_at(tokens, at) {
         Some(Lexeme::Ident(name)) => Ok((name.copy(alloc)?, at + 1)),

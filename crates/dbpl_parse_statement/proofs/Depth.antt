@@ -3,7 +3,7 @@ use Rattle.std.proofs.Common.{◌≡◌, ℕ, suc, ◌-◌, ◌<◌, ◌∷◌, 
 use Rattle.dbpl_grammar.specs.Expressions.{at_depth}
 use Rattle.dbpl_grammar.specs.Lexemes.{an_ident}
 use Rattle.dbpl_grammar.specs.Reading.{too_deep}
-use Rattle.dbpl_grammar.specs.Statements.{statement_with, statement_words, statements_after, statements_at, statements_with}
+use Rattle.dbpl_grammar.specs.Statements.{statement_by, statement_words, statements_after, statements_at, statements_by}
 
 -- no statements may stand there
 pub shallow : (depth : ℕ) → depth ≡ 0 → statements_at depth ≡ too_deep (an_ident ∷ statement_words ++ statements_after)
@@ -11,9 +11,9 @@ unfolding statements_at
 shallow depth none = rw none refl
 
 -- statements may stand there, and one less in them
-pub deeper : (depth : ℕ) → 0 < depth → statements_at depth ≡ statements_with (statement_with (at_depth (depth - 1)) (statements_at (depth - 1)))
+pub deeper : (depth : ℕ) → 0 < depth → statements_at depth ≡ statements_by (statement_by (at_depth (depth - 1)) (statements_at (depth - 1)))
 unfolding statements_at
 deeper depth some = let one : depth ≡ suc (depth - 1) = omega (arith, some) in deeper_from depth (depth - 1) one
   where
-    deeper_from : (depth less : ℕ) → depth ≡ suc less → statements_at depth ≡ statements_with (statement_with (at_depth less) (statements_at less))
+    deeper_from : (depth less : ℕ) → depth ≡ suc less → statements_at depth ≡ statements_by (statement_by (at_depth less) (statements_at less))
     deeper_from depth less is = rw is refl

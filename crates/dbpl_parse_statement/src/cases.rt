@@ -100,10 +100,10 @@ impl<S: Fn(Global, &[Token], usize, u8) -> Result<(Statements, usize), ReadErr>>
     }
 
     /// A branch, which may be empty.
-    #[tactic(auto, unfolding(dbpl_grammar::specs::Statements::case_with))]
+    #[tactic(auto, unfolding(dbpl_grammar::specs::Statements::case_by))]
     fn case(&self, tokens: &[Token], at: usize) -> Result<(Case, usize), ReadErr>
         requires statements { ReadsStatements self.now.depth (S.pre self.now.statements) (S.post self.now.statements) }
-        ensures { Reads tokens.now result (spec.case_with (at_depth self.now.depth) (spec.statements_at self.now.depth) (drop at tokens.now)) }
+        ensures { Reads tokens.now result (spec.case_by (at_depth self.now.depth) (spec.statements_at self.now.depth) (drop at tokens.now)) }
     {
         if !begins_expr(tokens, at) {
             let place = here(tokens, at)?;
@@ -116,7 +116,7 @@ impl<S: Fn(Global, &[Token], usize, u8) -> Result<(Statements, usize), ReadErr>>
     /// A bar and a branch.
     fn further_case(&self, tokens: &[Token], at: usize) -> Result<(Case, usize), ReadErr>
         requires statements { ReadsStatements self.now.depth (S.pre self.now.statements) (S.post self.now.statements) }
-        ensures { Reads tokens.now result (after lexeme.bar (spec.case_with (at_depth self.now.depth) (spec.statements_at self.now.depth)) (drop at tokens.now)) }
+        ensures { Reads tokens.now result (after lexeme.bar (spec.case_by (at_depth self.now.depth) (spec.statements_at self.now.depth)) (drop at tokens.now)) }
     {
         let at = sign(tokens, at, BAR)?;
         self.case(tokens, at)
@@ -126,7 +126,7 @@ impl<S: Fn(Global, &[Token], usize, u8) -> Result<(Statements, usize), ReadErr>>
     #[tactic(auto, using(dbpl_parse_expr::proofs::Loops::loops))]
     fn other_cases(&self, tokens: &[Token], at: usize) -> Result<(List<Case>, usize), ReadErr>
         requires statements { ReadsStatements self.now.depth (S.pre self.now.statements) (S.post self.now.statements) }
-        ensures { Reads tokens.now result (many (lexeme.bar ∷ []) (after lexeme.bar (spec.case_with (at_depth self.now.depth) (spec.statements_at self.now.depth))) (drop at tokens.now)) }
+        ensures { Reads tokens.now result (many (lexeme.bar ∷ []) (after lexeme.bar (spec.case_by (at_depth self.now.depth) (spec.statements_at self.now.depth))) (drop at tokens.now)) }
     {
         let mut found = List::new(self.alloc);
         let mut next = at;
@@ -155,7 +155,7 @@ impl<S: Fn(Global, &[Token], usize, u8) -> Result<(Statements, usize), ReadErr>>
         ReadErr,
     >
         requires statements { ReadsStatements self.now.depth (S.pre self.now.statements) (S.post self.now.statements) }
-        ensures { Reads tokens.now result ((spec.case_with (at_depth self.now.depth) (spec.statements_at self.now.depth) ⊗ many (lexeme.bar ∷ []) (after lexeme.bar (spec.case_with (at_depth self.now.depth) (spec.statements_at self.now.depth))) ⊗ closed (spec.otherwise (spec.statements_at self.now.depth)) lexeme.word_end) (drop at tokens.now)) }
+        ensures { Reads tokens.now result ((spec.case_by (at_depth self.now.depth) (spec.statements_at self.now.depth) ⊗ many (lexeme.bar ∷ []) (after lexeme.bar (spec.case_by (at_depth self.now.depth) (spec.statements_at self.now.depth))) ⊗ closed (spec.otherwise (spec.statements_at self.now.depth)) lexeme.word_end) (drop at tokens.now)) }
     {
         let (first, at) = self.case(tokens, at)?;
         let first = Boxed::new(self.alloc, first)?;

@@ -20,10 +20,10 @@ use std::alloc::Global;
 
 impl<S: Fn(Global, &[Token], usize, u8) -> Result<(Statements, usize), ReadErr>> Body<S> {
     /// A statement.
-    #[tactic(auto, unfolding(dbpl_grammar::specs::Statements::statement_with))]
+    #[tactic(auto, unfolding(dbpl_grammar::specs::Statements::statement_by))]
     fn statement(&self, tokens: &[Token], at: usize) -> Result<(Statement, usize), ReadErr>
         requires statements { ReadsStatements self.now.depth (S.pre self.now.statements) (S.post self.now.statements) }
-        ensures { Reads tokens.now result (spec.statement_with (at_depth self.now.depth) (spec.statements_at self.now.depth) (drop at tokens.now)) }
+        ensures { Reads tokens.now result (spec.statement_by (at_depth self.now.depth) (spec.statements_at self.now.depth) (drop at tokens.now)) }
     {
         match lexeme_at(tokens, at) {
             Some(Lexeme::Ident(_)) => action(self.alloc, tokens, at, self.depth),
@@ -44,7 +44,7 @@ impl<S: Fn(Global, &[Token], usize, u8) -> Result<(Statements, usize), ReadErr>>
     /// A semicolon and a statement.
     fn further_statement(&self, tokens: &[Token], at: usize) -> Result<(Statement, usize), ReadErr>
         requires statements { ReadsStatements self.now.depth (S.pre self.now.statements) (S.post self.now.statements) }
-        ensures { Reads tokens.now result (after lexeme.semicolon (spec.statement_with (at_depth self.now.depth) (spec.statements_at self.now.depth)) (drop at tokens.now)) }
+        ensures { Reads tokens.now result (after lexeme.semicolon (spec.statement_by (at_depth self.now.depth) (spec.statements_at self.now.depth)) (drop at tokens.now)) }
     {
         let at = sign(tokens, at, SEMICOLON)?;
         self.statement(tokens, at)
@@ -58,7 +58,7 @@ impl<S: Fn(Global, &[Token], usize, u8) -> Result<(Statements, usize), ReadErr>>
         at: usize,
     ) -> Result<(List<Statement>, usize), ReadErr>
         requires statements { ReadsStatements self.now.depth (S.pre self.now.statements) (S.post self.now.statements) }
-        ensures { Reads tokens.now result (many (lexeme.semicolon ∷ []) (after lexeme.semicolon (spec.statement_with (at_depth self.now.depth) (spec.statements_at self.now.depth))) (drop at tokens.now)) }
+        ensures { Reads tokens.now result (many (lexeme.semicolon ∷ []) (after lexeme.semicolon (spec.statement_by (at_depth self.now.depth) (spec.statements_at self.now.depth))) (drop at tokens.now)) }
     {
         let mut found = List::new(self.alloc);
         let mut next = at;
@@ -80,21 +80,21 @@ impl<S: Fn(Global, &[Token], usize, u8) -> Result<(Statements, usize), ReadErr>>
         at: usize,
     ) -> Result<(Boxed<Statement>, usize), ReadErr>
         requires statements { ReadsStatements self.now.depth (S.pre self.now.statements) (S.post self.now.statements) }
-        ensures { Reads tokens.now result (spec.statement_with (at_depth self.now.depth) (spec.statements_at self.now.depth) (drop at tokens.now)) }
+        ensures { Reads tokens.now result (spec.statement_by (at_depth self.now.depth) (spec.statements_at self.now.depth) (drop at tokens.now)) }
     {
         let (found, at) = self.statement(tokens, at)?;
         Ok((Boxed::new(self.alloc, found)?, at))
     }
 
     /// Statements in which so many phrases may stand inside one another.
-    #[tactic(auto, using(dbpl_parse_expr::proofs::Pairs::pairs), unfolding(dbpl_grammar::specs::Statements::statements_with))]
+    #[tactic(auto, using(dbpl_parse_expr::proofs::Pairs::pairs), unfolding(dbpl_grammar::specs::Statements::statements_by))]
     pub fn whole_statements(
         &self,
         tokens: &[Token],
         at: usize,
     ) -> Result<(Statements, usize), ReadErr>
         requires statements { ReadsStatements self.now.depth (S.pre self.now.statements) (S.post self.now.statements) }
-        ensures { Reads tokens.now result (spec.statements_with (spec.statement_with (at_depth self.now.depth) (spec.statements_at self.now.depth)) (drop at tokens.now)) }
+        ensures { Reads tokens.now result (spec.statements_by (spec.statement_by (at_depth self.now.depth) (spec.statements_at self.now.depth)) (drop at tokens.now)) }
     {
         let (first, at) = self.boxed_statement(tokens, at)?;
         let ((first, others), at) = pair(first, self.other_statements(tokens, at))?;

@@ -16,10 +16,10 @@ use std::alloc::Global;
 
 impl<T: Fn(Global, &[Token], usize, u8) -> Result<(TypeTree, usize), ReadErr>> InnerType<T> {
     /// A type in which so many phrases may stand inside one another.
-    #[tactic(auto, unfolding(dbpl_grammar::specs::Types::type_with))]
+    #[tactic(auto, unfolding(dbpl_grammar::specs::Types::type_by))]
     pub fn whole_type(&self, tokens: &[Token], at: usize) -> Result<(TypeTree, usize), ReadErr>
         requires type_tree { ReadsType self.now.depth (T.pre self.now.type_tree) (T.post self.now.type_tree) }
-        ensures { Reads tokens.now result (spec.type_with (at_depth self.now.depth) (spec.type_at self.now.depth) (drop at tokens.now)) }
+        ensures { Reads tokens.now result (spec.type_by (at_depth self.now.depth) (spec.type_at self.now.depth) (drop at tokens.now)) }
     {
         match lexeme_at(tokens, at) {
             Some(Lexeme::Sign(LEFT_PARENTHESIS)) => enumeration(self.alloc, tokens, at),

@@ -7,13 +7,13 @@ use Rattle.dbpl_grammar.specs.Laws.{BegunUnits, HasEnd, IsText, NamesToken, OneU
 use Rattle.dbpl_grammar.specs.Reading.{Reason, Refused, Wrong, Deep, deep, wrong}
 use Rattle.dbpl_grammar.specs.Units.{depth_limit, whole_unit}
 use Rattle.dbpl_grammar.proofs.TokenLaw.{err_isnt}
-use Rattle.dbpl_parse_expr.specs.Calls.{error_of, place_of}
+use Rattle.dbpl_parse_expr.specs.Calls.{answered, error_of, place_of}
 use Rattle.dbpl_parse_expr.specs.Gives.{Gives}
 use Rattle.dbpl_parse_expr.specs.declared.parse_err.ParseErr.{ParseErr}
 use Rattle.dbpl_parse_expr.specs.declared.parse_err.ParseErr.TheVariants as errors
 use Rattle.dbpl_parse_expr.specs.declared.read_err.ReadErr.{ReadErr}
 use Rattle.dbpl_parse_expr.specs.declared.read_err.ReadErr.TheVariants as refusals
-use Rattle.dbpl_parse_unit.specs.Whole.{TextRefusedAt, Whole, answered}
+use Rattle.dbpl_parse_unit.specs.Whole.{TextRefusedAt, Whole}
 
 -- an answer by positions is one by places
 whole_of : {A : Type 0} (tokens : List Token) (result : Result A ReadErr) (read : Result A Refused) → Gives (λ (found : A). found) tokens result read → Whole (answered tokens result) read

@@ -3,21 +3,15 @@ use Rattle.std.specs.Prelude.{◌≡◌, ◌≢◌, ◌⊎◌, List, [], Result,
 use Rattle.dbpl_base.specs.declared.token.Token.{Token}
 use Rattle.dbpl_grammar.specs.Laws.{NoneBegins, TextBegun}
 use Rattle.dbpl_grammar.specs.Reading.{Refused}
-use Rattle.dbpl_parse_expr.specs.Calls.{error_of, place_of, placed}
+use Rattle.dbpl_parse_expr.specs.Calls.{error_of, place_of}
 use Rattle.dbpl_parse_expr.specs.declared.parse_err.ParseErr.{ParseErr}
 use Rattle.dbpl_parse_expr.specs.declared.parse_err.ParseErr.TheVariants as errors
-use Rattle.dbpl_parse_expr.specs.declared.read_err.ReadErr.{ReadErr}
 
 -- The answer is what was read; or nothing was read, if memory isn't wanting, and the refusal is by its place.
 abbrev pub Whole : {A : Type 0} → Result A ParseErr → Result A Refused → Type 0
 Whole (Ok found) read = read ≡ Ok found
 Whole (Err error) read =
     error ≢ errors.Memory → (refused : Refused) × (read ≡ Err refused) × (error ≡ error_of refused.reason refused.rest)
-
--- what was read, or the refusal by its place
-abbrev pub answered : {A : Type 0} → List Token → Result A ReadErr → Result A ParseErr
-answered tokens (Ok found) = Ok found
-answered tokens (Err error) = Err (placed tokens error)
 
 -- The place is that of a token such that no unit of depth at most the limit begins with the tokens up to and with it,
 -- and some unit begins with those in front of it.

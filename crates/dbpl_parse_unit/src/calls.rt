@@ -3,25 +3,14 @@ ghost use Rattle.std.specs.Prelude.{◌≡◌, ◌≢◌, IfErr, IfOk};
 ghost use Rattle.dbpl_grammar.specs.Laws.{HasEnd, IsText};
 ghost use Rattle.dbpl_grammar.specs.Units.{depth_limit, whole_unit};
 ghost use Rattle.dbpl_parse_unit.specs.Whole.{TextRefusedAt, Whole};
-ghost use Rattle.dbpl_parse_unit.specs.Whole as wholes;
 ghost use Rattle.dbpl_tree.specs.declared.unit.Unit.{Unit as Module};
 
 use crate::texts::whole_unit;
 use dbpl_base::Token;
 use dbpl_grammar::{one_tree, reads_units};
-use dbpl_parse_expr::{ParseErr, ReadErr, placed};
+use dbpl_parse_expr::{ParseErr, answered};
 use dbpl_tree::Unit;
 use std::alloc::Global;
-
-/// The same tree, or the refusal by its place.
-fn answered<A>(tokens: &[Token], read: Result<A, ReadErr>) -> Result<A, ParseErr>
-    ensures { result ≡ wholes.answered tokens.now read }
-{
-    match read {
-        Ok(found) => Ok(found),
-        Err(error) => Err(placed(tokens, error)),
-    }
-}
 
 /// The unit that these tokens spell, the last of which is the end of the text.
 pub fn parse(alloc: Global, tokens: &[Token]) -> Result<Unit, ParseErr>

@@ -2,7 +2,7 @@
 use Rattle.std.proofs.Common.{◌≡◌, ◌&&◌, Bool, true, false, if◌then◌else◌, List, [], ◌∷◌, ◌++◌, Option, Some, None, option_and_then, option_map, refl, ap, ◌∙◌}
 use Rattle.std.proofs.lemmas.List.Folds.{list_all-append}
 use Rattle.std.specs.List.{list_all}
-use Rattle.dbpl_stored_form.specs.Lists.{all_of, joined, one_of, passing}
+use Rattle.dbpl_stored_form.specs.Lists.{joined_all, joined, one_of, passing}
 
 -- what a test lets through
 pub under : {A : Type 0} (test : Bool) (answer : Option A) (found : A) → (if test then answer else None) ≡ Some found →
@@ -39,12 +39,12 @@ joined_of (Some front) second found e =
 -- what holds of all that each gives holds of all that they give
 pub all_pass : {A B : Type 0} (gives : A → Option (List B)) (test : B → Bool) →
     ((x : A) (ys : List B) → gives x ≡ Some ys → list_all test ys ≡ true) →
-    (xs : List A) (ys : List B) → all_of gives xs ≡ Some ys → list_all test ys ≡ true
+    (xs : List A) (ys : List B) → joined_all gives xs ≡ Some ys → list_all test ys ≡ true
 all_pass gives test each [] ys e =
     let none : [] ≡ ys = cc e in
     rw (← none) refl
 all_pass gives test each (x ∷ xs) ys e =
-    let parts = joined_of (gives x) (all_of gives xs) ys e in
+    let parts = joined_of (gives x) (joined_all gives xs) ys e in
     let front = parts.0 in
     let back = parts.1 in
     rw (← parts.4)

@@ -12,10 +12,10 @@ use Rattle.dbpl_stored_program.specs.declared.insertion.Insertion.{Insertion}
 use Rattle.dbpl_stored_program.specs.declared.stored_program.StoredProgram.{StoredProgram}
 use Rattle.dbpl_value.specs.Databases.{is_kept}
 use Rattle.dbpl_stored_form.proofs.Found.{all_pass, made_of, one_is, one_passes, passed, then_of, under}
-use Rattle.dbpl_stored_form.specs.DataModules.{are_fields, are_names_different, can_be_kept, declared_in, has_frame, is_sound, is_variable_name, joined_name, schema_of}
-use Rattle.dbpl_stored_form.specs.Lists.{all_of, one_of, passing}
+use Rattle.dbpl_stored_form.specs.DataModules.{are_fields, are_names_different, can_be_kept, declared_in, has_frame, is_sound_schema, is_variable_name, joined_name, schema_of}
+use Rattle.dbpl_stored_form.specs.Lists.{joined_all, one_of, passing}
 use Rattle.dbpl_stored_form.specs.Programs.{has_frame as has_program_frame, program_of, stored_of, transaction_in, with_routine, with_statements}
-use Rattle.dbpl_stored_form.specs.Statements.{actions_in, aggregate_named, cardinal_in, cardinal_of, insertion_by, insertion_in, insertion_level, insertion_of, insertions_in, is_added_to, is_nothing, number_of, numbers_in, plain_of, row_of, rows_in, statements_of}
+use Rattle.dbpl_stored_form.specs.Statements.{actions_in, aggregate_named, cardinal_in, cardinal_of, insertion_by, insertion_in, insertion_level, insertion_of, insertions_in, is_added_to, is_nothing, literal_of, numbers_in, plain_of, row_of, rows_in, statements_of}
 use Rattle.dbpl_stored_form.specs.declared.schema.Schema.{Schema}
 use Rattle.dbpl_tree.specs.declared.element.Element.{Element}
 use Rattle.dbpl_tree.specs.declared.aggregate.Aggregate.{Aggregate}
@@ -47,7 +47,7 @@ number-small n z e =
 numbers-small : (element : Element) (numbers : List ℤ) → numbers_in element ≡ Some numbers → list_all is_in_cardinal numbers ≡ true
 numbers-small element numbers e =
     let one = one_is (cardinal_in element) numbers e in
-    let number = then_of cardinal_of (option_and_then number_of (plain_of element)) one.0 one.1 in
+    let number = then_of cardinal_of (option_and_then literal_of (plain_of element)) one.0 one.1 in
     one_passes is_in_cardinal one.0 numbers one.2 (number-small number.0 one.0 number.2)
 
 fields-there : (key : List ℕ) (names : List (List ℕ)) → fields_of (element_of (flat_type key names)) ≡ map cardinal_field names
@@ -67,7 +67,7 @@ module _ (schema : Schema) where
 
   row-fits : (a : Aggregate) (row : List ℤ) → row_of schema a ≡ Some row → is_row row_fields row ≡ true
   row-fits a row e =
-      let numbers = then_of (passing (λ (r : List ℤ). nat_eq (length r) (length schema.fields))) (all_of numbers_in a.elements) row e in
+      let numbers = then_of (passing (λ (r : List ℤ). nat_eq (length r) (length schema.fields))) (joined_all numbers_in a.elements) row e in
       let right = passed (λ (r : List ℤ). nat_eq (length r) (length schema.fields)) numbers.0 row numbers.2 in
       let each = all_pass numbers_in is_in_cardinal numbers-small a.elements numbers.0 numbers.1 in
       let many : nat_eq (length row) (length row_fields) ≡ true = rw (fields-many, ← right.1) right.0 in
@@ -86,7 +86,7 @@ module _ (schema : Schema) where
   set-fits : (place : Place) (a : Aggregate) (insertion : Insertion) → insertion_by schema place a ≡ Some insertion →
       are_rows kind insertion ≡ true
   set-fits place a insertion e =
-      let rows = made_of _ (all_of (rows_in schema) a.elements) insertion e in
+      let rows = made_of _ (joined_all (rows_in schema) a.elements) insertion e in
       rw (← rows.2) (all_pass (rows_in schema) (is_row row_fields) rows-fit a.elements rows.0 rows.1)
 
   insertion-fits : (place : Place) (e : ExprOf Factor) (insertion : Insertion) → insertion_of schema place e ≡ Some insertion →
@@ -119,8 +119,8 @@ module _ (schema : Schema) where
   statements-small : (m : Program) (stored : StoredProgram) (routine : Routine) → is_kept (joined_name schema) kind ≡ true →
       is_flat kind ≡ true → with_statements schema m routine ≡ Some stored → is_small_program stored ≡ true
   statements-small m stored routine keeps flat e =
-      let first = then_of _ (all_of (insertions_in schema) (statements_of routine.body)) stored e in
-      let second = made_of _ (all_of (actions_in routine.heading.name.name m.imports) (statements_of m.body)) stored first.2 in
+      let first = then_of _ (joined_all (insertions_in schema) (statements_of routine.body)) stored e in
+      let second = made_of _ (joined_all (actions_in routine.heading.name.name m.imports) (statements_of m.body)) stored first.2 in
       let fit = all_pass (insertions_in schema) (are_rows kind) statement-fits (statements_of routine.body) first.0 first.1 in
       rw (← second.2) (both_true (both_true keeps flat) fit)
 
@@ -157,8 +157,8 @@ sound-kept law schema h =
 schema-sound : (d : DataUnit) (schema : Schema) → schema_of d ≡ Some schema → can_be_kept schema ≡ true
 schema-sound d schema e =
     let framed = under (has_frame d) _ schema e in
-    let found = then_of (passing is_sound) (declared_in d.name.name d.items) schema framed.1 in
-    let sound = passed is_sound found.0 schema found.2 in
+    let found = then_of (passing is_sound_schema) (declared_in d.name.name d.items) schema framed.1 in
+    let sound = passed is_sound_schema found.0 schema found.2 in
     rw (← sound.1) (and_parts (are_names_different found.0) (can_be_kept found.0) sound.0).1
 
 pub stored-small : Kept → Flat → (database program : Tree) (stored : StoredProgram) → stored_of database program ≡ Some stored →

@@ -5,7 +5,7 @@ use Rattle.dbpl_base.specs.declared.place.Place.{Place}
 use Rattle.dbpl_stored_program.specs.Programs.{is_small_program}
 use Rattle.dbpl_stored_program.specs.declared.stored_program.StoredProgram.{StoredProgram}
 use Rattle.dbpl_front.proofs.TextLaw.{one_misspelling, one_tree, unit_or_misspelt}
-use Rattle.dbpl_front.specs.Texts.{IsUnspelt, SpellsUnit}
+use Rattle.dbpl_front.specs.Texts.{IsUnspelt, SpellsText}
 use Rattle.dbpl_front.specs.declared.front_err.FrontErr.{FrontErr}
 use Rattle.dbpl_front.specs.declared.front_err.FrontErr.TheVariants as errors
 use Rattle.dbpl_stored_form.specs.Programs.{stored_of}
@@ -53,7 +53,7 @@ pub first_unread : (schema program : List ℕ) (error : FrontErr) → IsUnspelt 
 first_unread schema program (errors.Refused refusal) cause = inl cause
 first_unread schema program errors.Memory cause = tt
 
-pub second_unread : (schema program : List ℕ) (unit : Tree) (error : FrontErr) → SpellsUnit 0 schema unit → IsUnspelt 1 program error → IsUnread schema program error
+pub second_unread : (schema program : List ℕ) (unit : Tree) (error : FrontErr) → SpellsText 0 schema unit → IsUnspelt 1 program error → IsUnread schema program error
 second_unread schema program unit (errors.Refused refusal) spelt cause =
     inr (inl (record { schema_unit = unit; schema_spelt = spelt; misspelt = cause }))
 second_unread schema program unit errors.Memory spelt cause = tt
@@ -69,30 +69,30 @@ unread_no_program schema program errors.Memory cause some stored h = absurd (som
 
 -- the first text is known by the unit that it spells
 abbrev pub IsStoredBehind : Tree → List ℕ → StoredProgram → Type 0
-IsStoredBehind database program stored = (schema : List ℕ) → SpellsUnit 0 schema database → IsStored schema program stored
+IsStoredBehind database program stored = (schema : List ℕ) → SpellsText 0 schema database → IsStored schema program stored
 
 abbrev pub IsUnreadBehind : Tree → List ℕ → FrontErr → Type 0
-IsUnreadBehind database program error = (schema : List ℕ) → SpellsUnit 0 schema database → IsUnread schema program error
+IsUnreadBehind database program error = (schema : List ℕ) → SpellsText 0 schema database → IsUnread schema program error
 
-pub found_behind : (database unit : Tree) (program : List ℕ) (result : Result StoredProgram FrontErr) → SpellsUnit 1 program unit →
+pub found_behind : (database unit : Tree) (program : List ℕ) (result : Result StoredProgram FrontErr) → SpellsText 1 program unit →
     IfOk result (λ stored. stored_of database unit ≡ Some stored) → IfOk result (IsStoredBehind database program)
 found_behind database unit program (Ok stored) second e = λ schema first.
     record { schema_unit = database; program_unit = unit; schema_spelt = first; program_spelt = second; is = e }
 found_behind database unit program (Err error) second e = tt
 
-pub refused_behind : (database unit : Tree) (program : List ℕ) (result : Result StoredProgram FrontErr) → SpellsUnit 1 program unit →
-    IfErr result (λ error. (schema text : List ℕ) → SpellsUnit 0 schema database → SpellsUnit 1 text unit → IsUnread schema text error) →
+pub refused_behind : (database unit : Tree) (program : List ℕ) (result : Result StoredProgram FrontErr) → SpellsText 1 program unit →
+    IfErr result (λ error. (schema text : List ℕ) → SpellsText 0 schema database → SpellsText 1 text unit → IsUnread schema text error) →
     IfErr result (IsUnreadBehind database program)
 refused_behind database unit program (Ok stored) second e = tt
 refused_behind database unit program (Err error) second e = λ schema first. e schema program first second
 
 module _ (schema program : List ℕ) (database : Tree) where
-  pub stored_found : (result : Result StoredProgram FrontErr) → SpellsUnit 0 schema database →
+  pub stored_found : (result : Result StoredProgram FrontErr) → SpellsText 0 schema database →
       IfOk result (IsStoredBehind database program) → IfOk result (IsStored schema program)
   stored_found (Ok stored) first h = h schema first
   stored_found (Err error) first h = tt
 
-  pub stored_only : (result : Result StoredProgram FrontErr) → SpellsUnit 0 schema database →
+  pub stored_only : (result : Result StoredProgram FrontErr) → SpellsText 0 schema database →
       IfOk result (IsStoredBehind database program) →
       IfOk result (λ stored. (other : StoredProgram) → IsStored schema program other → other ≡ stored)
   stored_only (Ok stored) first h = λ other k. one_program schema program other stored k (h schema first)
@@ -100,19 +100,19 @@ module _ (schema program : List ℕ) (database : Tree) where
 
   pub stored_small : (result : Result StoredProgram FrontErr) →
       ((one other : Tree) (stored : StoredProgram) → stored_of one other ≡ Some stored → IsTrue (is_small_program stored)) →
-      SpellsUnit 0 schema database → IfOk result (IsStoredBehind database program) →
+      SpellsText 0 schema database → IfOk result (IsStoredBehind database program) →
       IfOk result (λ stored. IsTrue (is_small_program stored))
   stored_small (Ok stored) law first h =
       let found = h schema first in
       law found.schema_unit found.program_unit stored found.is
   stored_small (Err error) law first h = tt
 
-  pub stored_refused : (result : Result StoredProgram FrontErr) → SpellsUnit 0 schema database →
+  pub stored_refused : (result : Result StoredProgram FrontErr) → SpellsText 0 schema database →
       IfErr result (IsUnreadBehind database program) → IfErr result (IsUnread schema program)
   stored_refused (Ok stored) first h = tt
   stored_refused (Err error) first h = h schema first
 
-  pub stored_refused_only : (result : Result StoredProgram FrontErr) → SpellsUnit 0 schema database →
+  pub stored_refused_only : (result : Result StoredProgram FrontErr) → SpellsText 0 schema database →
       IfErr result (IsUnreadBehind database program) →
       IfErr result (λ error. error ≢ errors.Memory → (other : StoredProgram) → IsStored schema program other → ⊥)
   stored_refused_only (Ok stored) first h = tt

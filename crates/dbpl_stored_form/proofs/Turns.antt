@@ -2,7 +2,7 @@
 use Rattle.std.proofs.Common.{◌≡◌, ℕ, suc, ◌+◌, ◌<◌, Bool, true, false, if◌then◌else◌, List, [], ◌∷◌, ◌++◌, Option, Some, None, refl, sym, ap, ◌∙◌, add-one, append-nil, append_assoc, take, drop, get_or, length}
 use Rattle.std.proofs.Math.Seq.{drop-cons}
 use Rattle.std.proofs.lemmas.List.{take-append-drop, take_more}
-use Rattle.dbpl_stored_form.specs.Lists.{all_of, joined}
+use Rattle.dbpl_stored_form.specs.Lists.{joined_all, joined}
 
 joined-none : {A : Type 0} (front : Option (List A)) → joined front None ≡ None
 joined-none None = refl
@@ -24,11 +24,11 @@ joined-joined (Some first) (Some second) None = refl
 joined-joined (Some first) (Some second) (Some third) = ap Some (sym (append_assoc first second third))
 
 all_of-append : {A B : Type 0} (gives : A → Option (List B)) (front back : List A) →
-    all_of gives (front ++ back) ≡ joined (all_of gives front) (all_of gives back)
-all_of-append gives [] back = sym (nothing-joined (all_of gives back))
+    joined_all gives (front ++ back) ≡ joined (joined_all gives front) (joined_all gives back)
+all_of-append gives [] back = sym (nothing-joined (joined_all gives back))
 all_of-append gives (x ∷ front) back =
     ap (joined (gives x)) (all_of-append gives front back)
-    ∙ joined-joined (gives x) (all_of gives front) (all_of gives back)
+    ∙ joined-joined (gives x) (joined_all gives front) (joined_all gives back)
 
 at_index : {A : Type 0} (xs : List A) (i : ℕ) (x : A) → x ≡ get_or xs i x → i < length xs → xs ≡ take i xs ++ (x ∷ drop (i + 1) xs)
 at_index xs i x here within =
@@ -46,12 +46,12 @@ added_none added found new e was = e ∙ ap (λ b. if b then Some new else None)
 
 -- the phrases so far with one more
 pub turn_more : {A B : Type 0} (gives : A → Option (List B)) (head xs : List A) (i : ℕ) (x : A) (added : Bool) (all new : List B) →
-    x ≡ get_or xs i x → i < length xs → all_of gives (head ++ take i xs) ≡ Some all →
+    x ≡ get_or xs i x → i < length xs → joined_all gives (head ++ take i xs) ≡ Some all →
     joined (Some all) (gives x) ≡ (if added then Some new else None) → added ≡ true →
-    all_of gives (head ++ take (i + 1) xs) ≡ Some new
+    joined_all gives (head ++ take (i + 1) xs) ≡ Some new
 turn_more gives head xs i x added all new here within so_far next was =
-    ap (λ ys. all_of gives (head ++ ys)) (take_more xs i x within ∙ ap (λ y. take i xs ++ y ∷ []) (sym here))
-    ∙ ap (all_of gives) (sym (append_assoc head (take i xs) (x ∷ [])))
+    ap (λ ys. joined_all gives (head ++ ys)) (take_more xs i x within ∙ ap (λ y. take i xs ++ y ∷ []) (sym here))
+    ∙ ap (joined_all gives) (sym (append_assoc head (take i xs) (x ∷ [])))
     ∙ all_of-append gives (head ++ take i xs) (x ∷ [])
     ∙ ap (λ front. joined front (joined (gives x) (Some []))) so_far
     ∙ ap (joined (Some all)) (joined-nothing (gives x))
@@ -59,30 +59,30 @@ turn_more gives head xs i x added all new here within so_far next was =
 
 -- one of another form
 pub turn_none : {A B : Type 0} (gives : A → Option (List B)) (head xs : List A) (i : ℕ) (x : A) (added : Bool) (all new : List B) →
-    x ≡ get_or xs i x → i < length xs → all_of gives (head ++ take i xs) ≡ Some all →
+    x ≡ get_or xs i x → i < length xs → joined_all gives (head ++ take i xs) ≡ Some all →
     joined (Some all) (gives x) ≡ (if added then Some new else None) → added ≡ false →
-    all_of gives (head ++ xs) ≡ None
+    joined_all gives (head ++ xs) ≡ None
 turn_none gives head xs i x added all new here within so_far next was =
-    ap (λ ys. all_of gives (head ++ ys)) (at_index xs i x here within)
-    ∙ ap (all_of gives) (sym (append_assoc head (take i xs) (x ∷ drop (i + 1) xs)))
+    ap (λ ys. joined_all gives (head ++ ys)) (at_index xs i x here within)
+    ∙ ap (joined_all gives) (sym (append_assoc head (take i xs) (x ∷ drop (i + 1) xs)))
     ∙ all_of-append gives (head ++ take i xs) (x ∷ drop (i + 1) xs)
-    ∙ ap (λ front. joined front (joined (gives x) (all_of gives (drop (i + 1) xs)))) so_far
-    ∙ joined-joined (Some all) (gives x) (all_of gives (drop (i + 1) xs))
-    ∙ ap (λ front. joined front (all_of gives (drop (i + 1) xs))) (added_none added (joined (Some all) (gives x)) new next was)
+    ∙ ap (λ front. joined front (joined (gives x) (joined_all gives (drop (i + 1) xs)))) so_far
+    ∙ joined-joined (Some all) (gives x) (joined_all gives (drop (i + 1) xs))
+    ∙ ap (λ front. joined front (joined_all gives (drop (i + 1) xs))) (added_none added (joined (Some all) (gives x)) new next was)
 
 -- the first of several
 pub first_none : {A B : Type 0} (gives : A → Option (List B)) (first : A) (others : List A) (added : Bool) (none new : List B) →
     none ≡ [] → joined (Some none) (gives first) ≡ (if added then Some new else None) → added ≡ false →
-    all_of gives (first ∷ others) ≡ None
+    joined_all gives (first ∷ others) ≡ None
 first_none gives first others added none new empty next was =
-    ap (λ front. joined front (all_of gives others))
+    ap (λ front. joined front (joined_all gives others))
     (sym (nothing-joined (gives first))
     ∙ ap (λ front. joined (Some front) (gives first)) (sym empty)
     ∙ added_none added (joined (Some none) (gives first)) new next was)
 
 pub first_some : {A B : Type 0} (gives : A → Option (List B)) (first : A) (added : Bool) (none all : List B) →
     none ≡ [] → joined (Some none) (gives first) ≡ (if added then Some all else None) → added ≡ true →
-    all_of gives (first ∷ []) ≡ Some all
+    joined_all gives (first ∷ []) ≡ Some all
 first_some gives first added none all empty next was =
     joined-nothing (gives first)
     ∙ sym (nothing-joined (gives first))

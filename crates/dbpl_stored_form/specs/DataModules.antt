@@ -4,7 +4,7 @@
 use Rattle.std.specs.Prelude.{ℕ, ◌+◌, Bool, not, ◌&&◌, bytes_eq, codes, length, nat_le, if◌then◌else◌, List, [], ◌∷◌, ◌++◌, Option, Some, None, option_and_then, option_map}
 use Rattle.std.specs.List.{list_any}
 use Rattle.dbpl_base.specs.declared.limits.TheConstants.{RELATION_NAME_BYTES, SCALARS}
-use Rattle.dbpl_stored_form.specs.Lists.{all_of, passing}
+use Rattle.dbpl_stored_form.specs.Lists.{joined_all, passing}
 use Rattle.dbpl_stored_form.specs.Names.{is_plain, is_type_name, names_of}
 use Rattle.dbpl_stored_form.specs.declared.schema.Schema.{Schema}
 use Rattle.dbpl_stored_program.specs.Programs.{flat_type}
@@ -34,15 +34,15 @@ fields_named (fields.Empty place) = Some []
 fields_named (fields.Fields names t) = if is_type_name cardinal t then Some (names_of names) else None
 
 abbrev pub fields_in : FieldsOf TypeTree → List (FieldsOf TypeTree) → Option (List (List ℕ))
-fields_in first others = all_of fields_named (first ∷ others)
+fields_in first others = joined_all fields_named (first ∷ others)
 
 -- RECORD a , b : CARDINAL ; .. END, by the names of its fields
 abbrev pub record_level : TypeTree-F TypeTree → Option (List (List ℕ))
 record_level (types.Record place first others) = fields_in first others
 record_level _ = None
 
-abbrev pub record_of : TypeTree → Option (List (List ℕ))
-record_of t = record_level (out-TypeTree t)
+abbrev pub record_fields : TypeTree → Option (List (List ℕ))
+record_fields t = record_level (out-TypeTree t)
 
 -- RELATION key OF R, by its key
 abbrev pub key_level : {T : Type 0} → List ℕ → TypeTree-F T → Option (List ℕ)
@@ -50,8 +50,8 @@ key_level element (types.Relation place keys qual) =
     if is_empty keys.others && is_plain element qual then Some keys.first.name else None
 key_level element _ = None
 
-abbrev pub key_of : List ℕ → TypeTree → Option (List ℕ)
-key_of element t = key_level element (out-TypeTree t)
+abbrev pub relation_key : List ℕ → TypeTree → Option (List ℕ)
+relation_key element t = key_level element (out-TypeTree t)
 
 -- ---- declarations
 
@@ -70,7 +70,7 @@ declared_by unit r s v =
       variable = v.names.first.name;
       key = key;
       fields = fields;
-    }) (record_of r.kind)) (key_of r.name.name s.kind)
+    }) (record_fields r.kind)) (relation_key r.name.name s.kind)
     else None
 
 abbrev pub parts_declare : List ℕ → List TypeDecl → List VarDecl → Option Schema
@@ -111,8 +111,8 @@ are_names_different schema = are_different (schema.element ∷ schema.relation �
 
 -- ---- modules
 
-abbrev pub is_sound : Schema → Bool
-is_sound schema = are_names_different schema && can_be_kept schema
+abbrev pub is_sound_schema : Schema → Bool
+is_sound_schema schema = are_names_different schema && can_be_kept schema
 
 -- the name is given twice and isn't InOut, and nothing is imported
 abbrev pub has_frame : DataUnit → Bool
@@ -120,4 +120,4 @@ has_frame d = bytes_eq d.end_name.name d.name.name && not (has_name in_out d.nam
 
 -- THE schema of a database module, if it is of the form
 abbrev pub schema_of : DataUnit → Option Schema
-schema_of d = if has_frame d then option_and_then (passing is_sound) (declared_in d.name.name d.items) else None
+schema_of d = if has_frame d then option_and_then (passing is_sound_schema) (declared_in d.name.name d.items) else None

@@ -11,9 +11,9 @@ joined None behind = None
 joined (Some front) behind = option_map (λ rest. front ++ rest) behind
 
 -- what each gives, one behind the other, if each is of the form
-abbrev pub all_of : {A B : Type 0} → (A → Option (List B)) → List A → Option (List B)
-all_of gives [] = Some []
-all_of gives (x ∷ xs) = joined (gives x) (all_of gives xs)
+abbrev pub joined_all : {A B : Type 0} → (A → Option (List B)) → List A → Option (List B)
+joined_all gives [] = Some []
+joined_all gives (x ∷ xs) = joined (gives x) (joined_all gives xs)
 
 -- a list of the one, if there is one
 abbrev pub one_of : {A : Type 0} → Option A → Option (List A)

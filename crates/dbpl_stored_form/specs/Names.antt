@@ -13,10 +13,10 @@ names_of idents = map (λ ident. ident.name) (idents.first ∷ idents.others)
 abbrev pub is_plain : List ℕ → Qual → Bool
 is_plain name qual = has_name name qual.first && not (is_some qual.second)
 
-abbrev pub type_level : {T : Type 0} → List ℕ → TypeTree-F T → Bool
-type_level name (types.Named qual) = is_plain name qual
-type_level name _ = false
+abbrev pub names_type : {T : Type 0} → List ℕ → TypeTree-F T → Bool
+names_type name (types.Named qual) = is_plain name qual
+names_type name _ = false
 
 -- the type is this name and nothing else
 abbrev pub is_type_name : List ℕ → TypeTree → Bool
-is_type_name name t = type_level name (out-TypeTree t)
+is_type_name name t = names_type name (out-TypeTree t)

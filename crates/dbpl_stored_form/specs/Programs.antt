@@ -6,7 +6,7 @@ use Rattle.std.specs.List.{list_any}
 use Rattle.dbpl_stored_program.specs.declared.stored_program.StoredProgram.{StoredProgram}
 use Rattle.dbpl_stored_form.specs.DataModules.{schema_of, variable_of}
 use Rattle.dbpl_stored_form.specs.Imports.{are_lines, imported_names}
-use Rattle.dbpl_stored_form.specs.Lists.{all_of, passing}
+use Rattle.dbpl_stored_form.specs.Lists.{joined_all, passing}
 use Rattle.dbpl_stored_form.specs.Statements.{actions_in, insertions_in, statements_of}
 use Rattle.dbpl_stored_form.specs.declared.schema.Schema.{Schema}
 use Rattle.dbpl_tree.specs.Plain.{has_name, is_empty}
@@ -73,8 +73,8 @@ with_statements schema m routine =
       relation = variable_of schema;
       insertions = insertions;
       body = body;
-    }) (all_of (actions_in routine.heading.name.name m.imports) (statements_of m.body)))
-    (all_of (insertions_in schema) (statements_of routine.body))
+    }) (joined_all (actions_in routine.heading.name.name m.imports) (statements_of m.body)))
+    (joined_all (insertions_in schema) (statements_of routine.body))
 
 abbrev pub with_routine : Schema → Program → Routine → Option StoredProgram
 with_routine schema m routine = if has_frame schema m routine then with_statements schema m routine else None

@@ -6,7 +6,7 @@ use Rattle.dbpl_stored_program.specs.declared.action.Action.{Action}
 use Rattle.dbpl_stored_program.specs.declared.action.Action.TheVariants.{Transact, WriteLn, WriteString}
 use Rattle.dbpl_stored_program.specs.declared.insertion.Insertion.{Insertion}
 use Rattle.dbpl_stored_form.specs.Imports.{is_imported}
-use Rattle.dbpl_stored_form.specs.Lists.{all_of, one_of, passing}
+use Rattle.dbpl_stored_form.specs.Lists.{joined_all, one_of, passing}
 use Rattle.dbpl_stored_form.specs.Names.{is_plain}
 use Rattle.dbpl_stored_form.specs.declared.schema.Schema.{Schema}
 use Rattle.dbpl_tree.specs.Plain.{argument_of, is_factor, is_name}
@@ -27,20 +27,20 @@ use Rattle.dbpl_tree.specs.declared.unit.Import.{Import}
 
 -- ---- expressions
 
-abbrev pub number_level : {E F R A C : Type 0} → Factor-F E F R A C → Option ℕ
-number_level (phrases.Number place n) = Some n
-number_level _ = None
+abbrev pub literal_level : {E F R A C : Type 0} → Factor-F E F R A C → Option ℕ
+literal_level (phrases.Number place n) = Some n
+literal_level _ = None
 
-abbrev pub aggregate_level : {E F R A C : Type 0} → Factor-F E F R A C → Option A
-aggregate_level (phrases.Factor::Aggregate a) = Some a
-aggregate_level _ = None
+abbrev pub plain_aggregate : {E F R A C : Type 0} → Factor-F E F R A C → Option A
+plain_aggregate (phrases.Factor::Aggregate a) = Some a
+plain_aggregate _ = None
 
 -- the number or the aggregate that an expression is, if it is one and nothing else
-abbrev pub number_of : ExprOf Factor → Option ℕ
-number_of e = if is_factor e then number_level (out-Factor e.left.first.first) else None
+abbrev pub literal_of : ExprOf Factor → Option ℕ
+literal_of e = if is_factor e then literal_level (out-Factor e.left.first.first) else None
 
 abbrev pub aggregate_of : ExprOf Factor → Option Aggregate
-aggregate_of e = if is_factor e then aggregate_level (out-Factor e.left.first.first) else None
+aggregate_of e = if is_factor e then plain_aggregate (out-Factor e.left.first.first) else None
 
 -- T{..}, with this name of the type
 abbrev pub aggregate_named : List ℕ → ExprOf Factor → Option Aggregate
@@ -76,7 +76,7 @@ abbrev pub cardinal_of : ℕ → Option ℤ
 cardinal_of n = if nat_le n 4294967295 then Some (pos n) else None
 
 abbrev pub cardinal_in : Element → Option ℤ
-cardinal_in element = option_and_then cardinal_of (option_and_then number_of (plain_of element))
+cardinal_in element = option_and_then cardinal_of (option_and_then literal_of (plain_of element))
 
 abbrev pub numbers_in : Element → Option (List ℤ)
 numbers_in element = one_of (cardinal_in element)
@@ -84,7 +84,7 @@ numbers_in element = one_of (cardinal_in element)
 -- R{1, 2}, with a number for each field
 abbrev pub row_of : Schema → Aggregate → Option (List ℤ)
 row_of schema a =
-    option_and_then (passing (λ row. nat_eq (length row) (length schema.fields))) (all_of numbers_in a.elements)
+    option_and_then (passing (λ row. nat_eq (length row) (length schema.fields))) (joined_all numbers_in a.elements)
 
 abbrev pub rows_in : Schema → Element → Option (List (List ℤ))
 rows_in schema element =
@@ -94,7 +94,7 @@ rows_in schema element =
 abbrev pub insertion_by : Schema → Place → Aggregate → Option Insertion
 insertion_by schema place set =
     option_map (λ rows. record { set_place = set.kind.first.place; place = place; rows = rows })
-    (all_of (rows_in schema) set.elements)
+    (joined_all (rows_in schema) set.elements)
 
 abbrev pub insertion_of : Schema → Place → ExprOf Factor → Option Insertion
 insertion_of schema place e = option_and_then (insertion_by schema place) (aggregate_named schema.relation e)

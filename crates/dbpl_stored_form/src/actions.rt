@@ -1,7 +1,7 @@
 //! The statements of the program's body.
 ghost use Rattle.std.specs.Prelude.{◌≡◌, ◌∷◌, if◌then◌else◌, IfOk, None, option_map, Some};
 ghost use Rattle.dbpl_stored_program.specs.declared.action.Action.TheVariants.{WriteString};
-ghost use Rattle.dbpl_stored_form.specs.Lists.{all_of, joined};
+ghost use Rattle.dbpl_stored_form.specs.Lists.{joined_all, joined};
 ghost use Rattle.dbpl_stored_form.specs.Statements as spec;
 ghost use Rattle.dbpl_tree.specs.Plain.{argument_of as string_in};
 
@@ -96,7 +96,7 @@ fn actions_of(
     first: &Statement,
     others: &[Statement],
 ) -> Result<Option<List<Action>>, Memory>
-    ensures { IfOk result (λ actions. actions ≡ all_of (spec.actions_in transaction.now imports.now) (first.now ∷ others.now)) }
+    ensures { IfOk result (λ actions. actions ≡ joined_all (spec.actions_in transaction.now imports.now) (first.now ∷ others.now)) }
 {
     let mut actions = List::new(alloc);
     if !add_action(alloc, transaction, imports, first, &mut actions)? {
@@ -117,7 +117,7 @@ pub(crate) fn all_actions(
     imports: &[Import],
     body: &Option<Statements>,
 ) -> Result<Option<List<Action>>, Memory>
-    ensures { IfOk result (λ actions. actions ≡ all_of (spec.actions_in transaction.now imports.now) (spec.statements_of body.now)) }
+    ensures { IfOk result (λ actions. actions ≡ joined_all (spec.actions_in transaction.now imports.now) (spec.statements_of body.now)) }
 {
     match body {
         Some(block) => actions_of(

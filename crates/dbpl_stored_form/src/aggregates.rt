@@ -1,7 +1,7 @@
 //! The rows of a set expression `S{R{1, 2}, ..}`.
 ghost use Rattle.std.specs.Prelude.{◌≡◌, if◌then◌else◌, IfOk, None, option_map, pos, Some};
 ghost use Rattle.std.specs.Option.{option_and_then, option_copied};
-ghost use Rattle.dbpl_stored_form.specs.Lists.{all_of, joined};
+ghost use Rattle.dbpl_stored_form.specs.Lists.{joined_all, joined};
 ghost use Rattle.dbpl_stored_form.specs.Statements as spec;
 
 use crate::Schema;
@@ -34,7 +34,7 @@ fn add_number(element: &Element, row: &mut List<i64>) -> Result<bool, Memory>
 }
 
 fn numbers_of(alloc: Global, elements: &[Element]) -> Result<Option<List<i64>>, Memory>
-    ensures { IfOk result (λ row. row ≡ all_of spec.numbers_in elements.now) }
+    ensures { IfOk result (λ row. row ≡ joined_all spec.numbers_in elements.now) }
 {
     let mut row = List::new(alloc);
     for element in elements {
@@ -92,7 +92,7 @@ pub(crate) fn rows_of(
     schema: &Schema,
     elements: &[Element],
 ) -> Result<Option<List<List<i64>>>, Memory>
-    ensures { IfOk result (λ rows. rows ≡ all_of (spec.rows_in schema.now) elements.now) }
+    ensures { IfOk result (λ rows. rows ≡ joined_all (spec.rows_in schema.now) elements.now) }
 {
     let mut rows = List::new(alloc);
     for element in elements {

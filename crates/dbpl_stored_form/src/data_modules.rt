@@ -43,7 +43,7 @@ fn fields_in(alloc: Global, first: &Fields, others: &[Fields]) -> Result<Option<
 
 /// The names of the fields of the record type that this is, if all are of type CARDINAL.
 fn record_of(alloc: Global, kind: &TypeTree) -> Result<Option<List<Name>>, Memory>
-    ensures { IfOk result (λ names. names ≡ spec.record_of kind.now) }
+    ensures { IfOk result (λ names. names ≡ spec.record_fields kind.now) }
 {
     match kind {
         TypeTree::Record(_, first, others) => fields_in(alloc, first, others.as_slice()),
@@ -53,7 +53,7 @@ fn record_of(alloc: Global, kind: &TypeTree) -> Result<Option<List<Name>>, Memor
 
 /// The key of the relation type over this record type that this is, if it has one key.
 fn key_of<'a>(kind: &'a TypeTree, element: &[u8]) -> Option<&'a Name>
-    ensures { option_copied result ≡ spec.key_of element.now kind.now }
+    ensures { option_copied result ≡ spec.relation_key element.now kind.now }
 {
     match kind {
         TypeTree::Relation(_, keys, over)
@@ -134,7 +134,7 @@ fn are_names_different(schema: &Schema) -> bool
 }
 
 fn is_sound(alloc: Global, schema: &Schema) -> Result<bool, Memory>
-    ensures { IfOk result (λ answer. answer ≡ spec.is_sound schema.now) }
+    ensures { IfOk result (λ answer. answer ≡ spec.is_sound_schema schema.now) }
 {
     if !are_names_different(schema) {
         return Ok(false);
@@ -153,7 +153,7 @@ fn has_frame(database: &DataUnit) -> bool
 }
 
 fn sound(alloc: Global, schema: Schema) -> Result<Option<Schema>, Memory>
-    ensures { IfOk result (λ found. found ≡ passing spec.is_sound schema) }
+    ensures { IfOk result (λ found. found ≡ passing spec.is_sound_schema schema) }
 {
     if is_sound(alloc, &schema)? {
         Ok(Some(schema))

@@ -9,7 +9,7 @@ use crate::names::is_plain;
 use dbpl_tree::{Aggregate, Element, Expr, Factor, is_factor};
 
 fn number_in(factor: &Factor) -> Option<u64>
-    ensures { result ≡ spec.number_level (out-Factor factor.now) }
+    ensures { result ≡ spec.literal_level (out-Factor factor.now) }
 {
     match factor {
         Factor::Number(_, number) => Some(*number),
@@ -18,7 +18,7 @@ fn number_in(factor: &Factor) -> Option<u64>
 }
 
 fn aggregate_in(factor: &Factor) -> Option<&Aggregate>
-    ensures { option_copied result ≡ spec.aggregate_level (out-Factor factor.now) }
+    ensures { option_copied result ≡ spec.plain_aggregate (out-Factor factor.now) }
 {
     match factor {
         Factor::Aggregate(aggregate) => Some(aggregate.get()),
@@ -28,7 +28,7 @@ fn aggregate_in(factor: &Factor) -> Option<&Aggregate>
 
 /// The number that the expression is.
 pub(crate) fn number_of(expr: &Expr) -> Option<u64>
-    ensures { result ≡ spec.number_of expr.now }
+    ensures { result ≡ spec.literal_of expr.now }
 {
     if is_factor(expr) {
         number_in(&expr.left.first.first)

@@ -1,6 +1,6 @@
 //! The statements of a transaction.
 ghost use Rattle.std.specs.Prelude.{◌≡◌, ◌∷◌, if◌then◌else◌, IfOk, None, Some};
-ghost use Rattle.dbpl_stored_form.specs.Lists.{all_of, joined};
+ghost use Rattle.dbpl_stored_form.specs.Lists.{joined_all, joined};
 ghost use Rattle.dbpl_stored_form.specs.Statements as spec;
 
 use crate::Schema;
@@ -83,7 +83,7 @@ fn insertions_of(
     first: &Statement,
     others: &[Statement],
 ) -> Result<Option<List<Insertion>>, Memory>
-    ensures { IfOk result (λ insertions. insertions ≡ all_of (spec.insertions_in schema.now) (first.now ∷ others.now)) }
+    ensures { IfOk result (λ insertions. insertions ≡ joined_all (spec.insertions_in schema.now) (first.now ∷ others.now)) }
 {
     let mut insertions = List::new(alloc);
     if !add_insertion(alloc, schema, first, &mut insertions)? {
@@ -103,7 +103,7 @@ pub(crate) fn all_insertions(
     schema: &Schema,
     body: &Option<Statements>,
 ) -> Result<Option<List<Insertion>>, Memory>
-    ensures { IfOk result (λ insertions. insertions ≡ all_of (spec.insertions_in schema.now) (spec.statements_of body.now)) }
+    ensures { IfOk result (λ insertions. insertions ≡ joined_all (spec.insertions_in schema.now) (spec.statements_of body.now)) }
 {
     match body {
         Some(block) => insertions_of(alloc, schema, block.first.get(), block.others.as_slice()),

@@ -3,7 +3,7 @@ ghost use Rattle.std.specs.Prelude.{◌≡◌, ◌≢◌, ℕ, ◌≤◌, length
 ghost use Rattle.dbpl_base.specs.declared.limits.TheConstants.{TEXT_BYTES};
 ghost use Rattle.dbpl_stored_program.specs.Programs.{is_small_program};
 ghost use Rattle.dbpl_stored_program.specs.declared.stored_program.StoredProgram.{StoredProgram as AProgram};
-ghost use Rattle.dbpl_front.specs.Texts.{SpellsUnit};
+ghost use Rattle.dbpl_front.specs.Texts.{SpellsText};
 ghost use Rattle.dbpl_stored_form.specs.Programs.{stored_of};
 ghost use Rattle.dbpl_stored_form.specs.Texts.{IsStored, IsUnread};
 
@@ -21,7 +21,7 @@ const UNBUILT: u16 = 109;
 /// The program that two trees are, if they are of the form.
 fn built(alloc: Global, database: &Unit, program: &Unit) -> Result<StoredProgram, FrontErr>
     ensures found { IfOk result (λ stored. stored_of database.now program.now ≡ Some stored) }
-    ensures refused { IfErr result (λ error. (schema text : List ℕ) → SpellsUnit 0 schema database.now → SpellsUnit 1 text program.now → IsUnread schema text error) }
+    ensures refused { IfErr result (λ error. (schema text : List ℕ) → SpellsText 0 schema database.now → SpellsText 1 text program.now → IsUnread schema text error) }
 {
     match stored(alloc, database, program)? {
         Some(stored) => Ok(stored),
@@ -39,8 +39,8 @@ fn built(alloc: Global, database: &Unit, program: &Unit) -> Result<StoredProgram
 /// The program that the tree of a database module and the text of a program module are, if they are of the form.
 fn read_program(alloc: Global, database: &Unit, text: &[u8]) -> Result<StoredProgram, FrontErr>
     requires { length text.now ≤ TEXT_BYTES }
-    ensures found { IfOk result (λ stored. (schema : List ℕ) → SpellsUnit 0 schema database.now → IsStored schema text.now stored) }
-    ensures refused { IfErr result (λ error. (schema : List ℕ) → SpellsUnit 0 schema database.now → IsUnread schema text.now error) }
+    ensures found { IfOk result (λ stored. (schema : List ℕ) → SpellsText 0 schema database.now → IsStored schema text.now stored) }
+    ensures refused { IfErr result (λ error. (schema : List ℕ) → SpellsText 0 schema database.now → IsUnread schema text.now error) }
 {
     let program = unit_in(alloc, 1, text)?;
     built(alloc, database, &program)

@@ -5,7 +5,7 @@ use Rattle.dbpl_base.specs.declared.status.Status.{Status}
 use Rattle.dbpl_base.specs.declared.status.Status.TheVariants as status
 use Rattle.dbpl_core.specs.Events.{Event, prints}
 use Rattle.dbpl_stored_program.specs.Meaning.{Ended, Going, Standing, Trapped}
-use Rattle.dbpl_stored_program.specs.Whole.{events_of, whole}
+use Rattle.dbpl_stored_program.specs.Whole.{events_of, whole_run}
 use Rattle.dbpl_stored_program.specs.declared.stored_program.StoredProgram.{StoredProgram}
 use Rattle.dbpl_core.specs.declared.trap.Trap.{Trap}
 use Rattle.dbpl_value.proofs.BoundTo.{binds-one}
@@ -50,7 +50,7 @@ pub record RanMounted (stored : StoredProgram) (tells : Bool) (mid new : History
   pub made_trapped : IsTrue tells → (database bound : List Bound) → ReadsAs database (now mid) → Binds stored.relation database bound →
       (trap : Trap) → result ≡ Err (errors.Trapped trap) → HasMade (events_of stored bound (now mid).input) database (now mid) (now new)
   pub complete : IsTrue tells → (database bound : List Bound) → ReadsAs database (now mid) → Binds stored.relation database bound →
-      (Rose counts_mid.disk_faults counts_new.disk_faults → ⊥) → (Rose counts_mid.say_faults counts_new.say_faults → ⊥) → IsDue (whole stored bound (now mid).input).stands result
+      (Rose counts_mid.disk_faults counts_new.disk_faults → ⊥) → (Rose counts_mid.say_faults counts_new.say_faults → ⊥) → IsDue (whole_run stored bound (now mid).input).stands result
   pub ended : OnOk result (ran.HasRun stored Ended tells mid new)
   pub trapped : (trap : Trap) → result ≡ Err (errors.Trapped trap) → ran.HasRun stored (Trapped trap) tells mid new
   pub not_store : IsTrue tells → result ≡ Err errors.NotStore → HasHead (now mid).disk.log.now → ⊥
@@ -188,12 +188,12 @@ module _ (name : List ℕ) (stored : StoredProgram) (work : Work) (mid : History
 
   -- how the meaning over the store's database stands
   stands_so : IsTrue work.tells → (database bound : List Bound) → ReadsOver name work stored database bound → (standing : Standing) →
-      ran.HasRun stored standing work.tells mid work.after → (whole stored bound (now work.before).input).stands ≡ standing
+      ran.HasRun stored standing work.tells mid work.after → (whole_run stored bound (now work.before).input).stands ≡ standing
   stands_so told database bound over standing has =
       let same = one_read told has.database database (has.stood told) (reads_here told database over.reads) in
       let binds = subst (λ (d : List Bound). Binds stored.relation d has.bound) same has.binds in
-      ap (λ (b : List Bound). (whole stored b (now work.before).input).stands) (binds-one stored.relation database bound has.bound over.binds binds)
-      ∙ ap (λ (input : List ℕ). (whole stored has.bound input).stands) (sym (same_input told)) ∙ has.ends
+      ap (λ (b : List Bound). (whole_run stored b (now work.before).input).stands) (binds-one stored.relation database bound has.bound over.binds binds)
+      ∙ ap (λ (input : List ℕ). (whole_run stored has.bound input).stands) (sym (same_input told)) ∙ has.ends
 
   done : IsTrue work.tells → (database bound : List Bound) → ReadsOver name work stored database bound → answer ≡ status.Done →
       HasRunThere name work stored database bound Ended
@@ -226,10 +226,10 @@ module _ (name : List ℕ) (stored : StoredProgram) (work : Work) (mid : History
 
   complete : IsTrue work.tells → (database bound : List Bound) → ReadsOver name work stored database bound →
       (Rose work.counts_before.disk_faults work.counts_after.disk_faults → ⊥) → (Rose work.counts_before.say_faults work.counts_after.say_faults → ⊥) →
-      IsDueAnswer (whole stored bound (now work.before).input).stands answer ⊎ (answer ≡ status.Memory)
+      IsDueAnswer (whole_run stored bound (now work.before).input).stands answer ⊎ (answer ≡ status.Memory)
   complete told database bound over no_disk no_say =
-      due (whole stored bound (now work.before).input).stands
-      (subst (λ (input : List ℕ). IsDue (whole stored bound input).stands result) (same_input told)
+      due (whole_run stored bound (now work.before).input).stands
+      (subst (λ (input : List ℕ). IsDue (whole_run stored bound input).stands result) (same_input told)
       (run.complete told database bound (reads_here told database over.reads) over.binds
       (λ rose. no_disk (rose_later _ _ _ disk_later rose)) (λ rose. no_say (subst (λ (n : ℕ). Rose n work.counts_after.say_faults) say_same rose))))
 
@@ -432,7 +432,7 @@ module _ (name : List ℕ) (stored : StoredProgram) (work : Work) (answer : Stat
         });
     done = λ told database bound over e. absurd (still_as why status.Done e);
     trapped = λ told database bound over trap e. absurd (still_as why (status.Trapped trap.kind trap.place) e);
-    complete = λ told database bound over named no_shelf no_disk no_say. still_complete name work answer (whole stored bound (now work.before).input).stands why named no_shelf no_disk;
+    complete = λ told database bound over named no_shelf no_disk no_say. still_complete name work answer (whole_run stored bound (now work.before).input).stands why named no_shelf no_disk;
     not_store_only = λ told e. inl (still_as why status.NotStore e);
     not_store = λ told none. still_not_store name work answer why;
     damaged_only = λ told page e. absurd (still_as why (status.Damaged page) e);

@@ -4,7 +4,7 @@ use Rattle.dbpl_base.specs.declared.status.Status.{Status}
 use Rattle.dbpl_base.specs.declared.status.Status.TheVariants as status
 use Rattle.dbpl_core.specs.Events.{Event, last, prints}
 use Rattle.dbpl_stored_program.specs.Meaning.{Ended, Going, Standing, Trapped}
-use Rattle.dbpl_stored_program.specs.Whole.{events_of, whole}
+use Rattle.dbpl_stored_program.specs.Whole.{events_of, whole_run}
 use Rattle.dbpl_stored_program.specs.declared.stored_program.StoredProgram.{StoredProgram}
 use Rattle.dbpl_core.specs.declared.trap.Trap.{Trap}
 use Rattle.dbpl_value.specs.Binding.{Binds, Differs}
@@ -60,7 +60,7 @@ pub record HasAll (events : List Event) (database : List Bound) (before log page
 
 -- The program made all its events, and its meaning stands so at its end.
 pub record HasRunThere (store : List ℕ) (work : Work) (stored : StoredProgram) (database bound : List Bound) (standing : Standing) : Type 0 where
-  pub stands_so : (whole stored bound (now work.before).input).stands ≡ standing
+  pub stands_so : (whole_run stored bound (now work.before).input).stands ≡ standing
   pub all : LeavesOnlyAt store (HasAll (events_of stored bound (now work.before).input) database (now work.before).said) (now work.after)
 
 -- the answer that is due where the meaning stands so at its end
@@ -120,7 +120,7 @@ pub record RunsStored (store : List ℕ) (stored : StoredProgram) (work : Work) 
   -- Where no fault comes it does so, but for want of memory.
   pub complete : IsTrue work.tells → (database bound : List Bound) → ReadsOver store work stored database bound → store ≢ no_store →
       (Rose work.shelf_faults_before work.shelf_faults_after → ⊥) → (Rose work.counts_before.disk_faults work.counts_after.disk_faults → ⊥) →
-      (Rose work.counts_before.say_faults work.counts_after.say_faults → ⊥) → IsDueAnswer (whole stored bound (now work.before).input).stands answer ⊎ (answer ≡ status.Memory)
+      (Rose work.counts_before.say_faults work.counts_after.say_faults → ⊥) → IsDueAnswer (whole_run stored bound (now work.before).input).stands answer ⊎ (answer ≡ status.Memory)
   -- Each refusal comes exactly where it belongs, but for faults and want of memory, and nothing was said or stored.
   pub not_store_only : IsTrue work.tells → answer ≡ status.NotStore → HasNone store work
   pub not_store : IsTrue work.tells → HasNone store work → IsUnlessUnopened answer status.NotStore

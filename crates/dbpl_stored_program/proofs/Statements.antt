@@ -4,8 +4,8 @@ use Rattle.std.proofs.lemmas.List.{append-nil}
 use Rattle.dbpl_stored_program.proofs.Databases.{named-after, relation_named-is, with_named-own, with_named-twice}
 use Rattle.dbpl_core.specs.Events.{Commit, Event, Out}
 use Rattle.dbpl_stored_program.specs.Insertions.{and_then, inserted, inserted_all, right_side, with_set}
-use Rattle.dbpl_stored_program.specs.Meaning.{◌>>=◌, Done, Ended, Outcome, Ran, Standing, State, Stops, Trapped, action_meaning, block, commits, gives, go_on, insertion_meaning, makes, meaning, outcome_of, puts, reads, relation_named, stops, transaction_meaning, before_zero, turn, with_named}
-use Rattle.dbpl_stored_program.specs.Whole.{after_events, by_transaction, comes_to, transacted_by, whole}
+use Rattle.dbpl_stored_program.specs.Meaning.{◌>>=◌, Done, Ended, Outcome, Ran, Standing, State, Stops, Trapped, action_meaning, block, commits, gives, go_on, insertion_meaning, makes, meaning, outcome_of, puts_relation, reads_relation, relation_named, stops, transaction_meaning, before_zero, turn, with_named}
+use Rattle.dbpl_stored_program.specs.Whole.{after_events, by_transaction, comes_to, transacted_by, whole_run}
 use Rattle.dbpl_stored_program.specs.declared.action.Action.{Action}
 use Rattle.dbpl_stored_program.specs.declared.action.Action.TheVariants.{Transact, WriteLn, WriteString}
 use Rattle.dbpl_stored_program.specs.declared.insertion.Insertion.{Insertion}
@@ -29,7 +29,7 @@ insertion-by :
     right_side field.kind insertion ≡ set → (after : Result Value Trap) →
     and_then set (with_set field.kind insertion.place relation) ≡ after →
     Holds field.name state after (insertion_meaning field insertion state)
-unfolding ◌>>=◌ gives stops reads puts
+unfolding ◌>>=◌ gives stops reads_relation puts_relation
 insertion-by field insertion state relation held (Err trap) e after is = rw (e, ← is) (state.database, refl)
 insertion-by field insertion state relation held (Ok set) e (Err trap) is = rw (e, held, is) (state.database, refl)
 insertion-by field insertion state relation held (Ok set) e (Ok after) is = rw (e, held, is) refl
@@ -185,10 +185,10 @@ body_goes program (Transact ∷ actions) (suc left) database input events bound 
     (transaction-commits program state bound found))
     (λ later made held there. body_goes program actions left later input made held there (omega (arith, e)))
 
--- THE whole of a program, statement by statement
+-- THE whole run of a program, statement by statement
 pub whole-comes_to :
     (program : StoredProgram) (database : List Bound) (input : List ℕ) (bound : Bound) →
-    bound_named program.relation.name database ≡ Some bound → whole program database input ≡ comes_to program program.body database
+    bound_named program.relation.name database ≡ Some bound → whole_run program database input ≡ comes_to program program.body database
 unfolding meaning turn
 whole-comes_to program database input bound found =
     body_goes program program.body (length program.body) database input [] bound found refl

@@ -4,7 +4,7 @@ use Rattle.std.proofs.Common.{◌≡◌, ◌+◌, ℕ, zero, suc, List, [], ◌�
 use Rattle.std.proofs.lemmas.List.{append-nil}
 use Rattle.dbpl_core.specs.Events.{Commit, Event}
 use Rattle.dbpl_stored_program.specs.Insertions.{right_side, with_set}
-use Rattle.dbpl_stored_program.specs.Meaning.{◌>>=◌, Doing, Done, Ended, Going, Outcome, Ran, State, Stops, Trapped, action_meaning, block, body_meaning, commits, gives, go_on, insertion_meaning, makes, meaning, outcome_of, puts, reads, stops, transaction_meaning, turn, turn_with, untrapped}
+use Rattle.dbpl_stored_program.specs.Meaning.{◌>>=◌, Doing, Done, Ended, Going, Outcome, Ran, State, Stops, Trapped, action_meaning, block, body_meaning, commits, gives, go_on, insertion_meaning, makes, meaning, outcome_of, puts_relation, reads_relation, stops, transaction_meaning, turn, turn_with, untrapped}
 use Rattle.dbpl_stored_program.specs.declared.action.Action.{Action}
 use Rattle.dbpl_stored_program.specs.declared.action.Action.TheVariants.{Transact, WriteLn, WriteString}
 use Rattle.dbpl_stored_program.specs.declared.insertion.Insertion.{Insertion}
@@ -105,15 +105,15 @@ steady_makes events = record {
   on = λ others further state e. (further, e, refl);
 }
 
-pub steady_reads : (name : List ℕ) → IsSteady (reads name)
-unfolding reads
+pub steady_reads : (name : List ℕ) → IsSteady (reads_relation name)
+unfolding reads_relation
 steady_reads name = record {
   adds = λ state. none-from state.events;
   on = λ others further state e. (further, e, refl);
 }
 
-pub steady_puts : (name : List ℕ) (relation : Value) → IsSteady (puts name relation)
-unfolding puts
+pub steady_puts : (name : List ℕ) (relation : Value) → IsSteady (puts_relation name relation)
+unfolding puts_relation
 steady_puts name relation = record {
   adds = λ state. none-from state.events;
   on = λ others further state e. (further, e, refl);

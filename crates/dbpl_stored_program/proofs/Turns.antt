@@ -3,8 +3,8 @@ use Rattle.std.proofs.Common.{◌≡◌, ◌+◌, ◌≤◌, ℕ, zero, suc, Lis
 use Rattle.dbpl_stored_program.proofs.Steady.{GoesFrom, steady}
 use Rattle.dbpl_core.specs.Events.{Event}
 use Rattle.dbpl_stored_program.specs.Insertions.{right_side, with_set}
-use Rattle.dbpl_stored_program.specs.Meaning.{◌>>=◌, Doing, Done, Going, Outcome, Ran, State, Stops, Trapped, action_meaning, block, body_meaning, commits, gives, go_on, insertion_meaning, makes, meaning, outcome_of, puts, reads, stops, transaction_meaning, turn, turn_with, untrapped}
-use Rattle.dbpl_stored_program.specs.Whole.{turns_of, whole}
+use Rattle.dbpl_stored_program.specs.Meaning.{◌>>=◌, Doing, Done, Going, Outcome, Ran, State, Stops, Trapped, action_meaning, block, body_meaning, commits, gives, go_on, insertion_meaning, makes, meaning, outcome_of, puts_relation, reads_relation, stops, transaction_meaning, turn, turn_with, untrapped}
+use Rattle.dbpl_stored_program.specs.Whole.{turns_of, whole_run}
 use Rattle.dbpl_stored_program.specs.declared.action.Action.{Action}
 use Rattle.dbpl_stored_program.specs.declared.action.Action.TheVariants.{Transact, WriteLn, WriteString}
 use Rattle.dbpl_stored_program.specs.declared.insertion.Insertion.{Insertion}
@@ -59,12 +59,12 @@ uses_makes : (events : List Event) → Uses 0 (makes events)
 unfolding makes
 uses_makes events = record { by = λ state enough. omega arith }
 
-uses_reads : (name : List ℕ) → Uses 0 (reads name)
-unfolding reads
+uses_reads : (name : List ℕ) → Uses 0 (reads_relation name)
+unfolding reads_relation
 uses_reads name = record { by = λ state enough. omega arith }
 
-uses_puts : (name : List ℕ) (relation : Value) → Uses 0 (puts name relation)
-unfolding puts
+uses_puts : (name : List ℕ) (relation : Value) → Uses 0 (puts_relation name relation)
+unfolding puts_relation
 uses_puts name relation = record { by = λ state enough. omega arith }
 
 uses_commits : Uses 0 commits
@@ -131,16 +131,16 @@ not_going count left (Done value state) spends e = cc
 not_going count left (Stops standing state) spends e = spends e
 
 -- with its turns a program isn't cut off
-pub comes_to_end : (program : StoredProgram) (database : List Bound) (input : List ℕ) → (whole program database input).stands ≡ Going → ⊥
+pub comes_to_end : (program : StoredProgram) (database : List Bound) (input : List ℕ) → (whole_run program database input).stands ≡ Going → ⊥
 unfolding meaning
 comes_to_end program database input =
     let start : State = record { left = turns_of program; database = database; input = input; events = [] } in
     not_going (turns_of program) (turns_of program) (body_meaning program start) ((uses_body program).by start (omega arith))
 
--- what it has made within fewer turns is a front of the whole
+-- what it has made within fewer turns is a front of the whole run
 pub whole-front :
     (program : StoredProgram) (database : List Bound) (input : List ℕ) (turns : ℕ) →
-    GoesFrom (meaning program database input turns).events (whole program database input).events
+    GoesFrom (meaning program database input turns).events (whole_run program database input).events
 whole-front program database input turns =
     let further : ℕ = turns + turns_of program in
     let on = steady program database input turns (turns_of program) further refl in

@@ -88,11 +88,11 @@ with_named name relation [] = []
 with_named name relation (bound ∷ others) =
     if is_same_name bound.name name then holding relation bound ∷ others else bound ∷ with_named name relation others
 
-unfoldable pub reads : List ℕ → Doing Value
-reads name = λ state. Done (relation_named name state.database) state
+unfoldable pub reads_relation : List ℕ → Doing Value
+reads_relation name = λ state. Done (relation_named name state.database) state
 
-unfoldable pub puts : List ℕ → Value → Doing (Unit {0})
-puts name relation = λ state. Done (tt {0}) (record state { database = with_named name relation state.database })
+unfoldable pub puts_relation : List ℕ → Value → Doing (Unit {0})
+puts_relation name relation = λ state. Done (tt {0}) (record state { database = with_named name relation state.database })
 
 unfoldable pub commits : Doing (Unit {0})
 commits = λ state. Done (tt {0}) (record state { events = state.events ++ Commit state.database ∷ [] })
@@ -107,9 +107,9 @@ transaction statements = block statements >>= λ _. commits
 abbrev pub insertion_meaning : Field → Insertion → Doing (Unit {0})
 insertion_meaning field insertion = do
   set ← untrapped (right_side field.kind insertion)
-  relation ← reads field.name
+  relation ← reads_relation field.name
   after ← untrapped (with_set field.kind insertion.place relation set)
-  puts field.name after
+  puts_relation field.name after
 
 abbrev pub transaction_meaning : StoredProgram → Doing (Unit {0})
 transaction_meaning program = transaction (map (insertion_meaning program.relation) program.insertions)

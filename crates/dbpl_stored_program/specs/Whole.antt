@@ -14,12 +14,12 @@ use Rattle.dbpl_value.specs.declared.value.Value.{Value}
 abbrev pub turns_of : StoredProgram → ℕ
 turns_of program = suc (length program.body)
 
-abbrev pub whole : StoredProgram → List Bound → List ℕ → Outcome
-whole program database input = meaning program database input (turns_of program)
+abbrev pub whole_run : StoredProgram → List Bound → List ℕ → Outcome
+whole_run program database input = meaning program database input (turns_of program)
 
 -- THE event list of a program over this database, with this input
 abbrev pub events_of : StoredProgram → List Bound → List ℕ → List Event
-events_of program database input = (whole program database input).events
+events_of program database input = (whole_run program database input).events
 
 -- ---- the same, statement by statement
 

@@ -4,7 +4,7 @@ use Rattle.std.specs.Prelude.{IfErr, IsErrAnd, OnErr, OnOk}
 use Rattle.std.proofs.lemmas.Result.{err_from_is_err_and}
 use Rattle.dbpl_stored_program.proofs.Turns.{comes_to_end}
 use Rattle.dbpl_stored_program.specs.Meaning.{Ended, Going, Standing, Trapped}
-use Rattle.dbpl_stored_program.specs.Whole.{whole}
+use Rattle.dbpl_stored_program.specs.Whole.{whole_run}
 use Rattle.dbpl_stored_program.specs.declared.stored_program.StoredProgram.{StoredProgram}
 use Rattle.dbpl_core.specs.declared.trap.Trap.{Trap}
 use Rattle.dbpl_store.specs.declared.store_err.StoreErr.{StoreErr}
@@ -123,34 +123,34 @@ module _ {T : Type 0} (answer : Result T StopErr) (why : BodyErr) (is : answer �
 -- ---- the answer that is due
 
 module _ (program : StoredProgram) (bound : List Bound) (input : List ℕ) where
-  pub due-memory : IsDue (whole program bound input).stands (Err errors.Memory)
-  due-memory = by_standing (whole program bound input).stands refl
+  pub due-memory : IsDue (whole_run program bound input).stands (Err errors.Memory)
+  due-memory = by_standing (whole_run program bound input).stands refl
     where
-      by_standing : (standing : Standing) → (whole program bound input).stands ≡ standing → IsDue standing (Err errors.Memory)
+      by_standing : (standing : Standing) → (whole_run program bound input).stands ≡ standing → IsDue standing (Err errors.Memory)
       by_standing Going e = absurd (comes_to_end program bound input e)
       by_standing Ended e = inr refl
       by_standing (Trapped trap) e = inr refl
 
-  pub due-ended : (value : Unit {0}) → (whole program bound input).stands ≡ Ended → IsDue (whole program bound input).stands (Ok value)
+  pub due-ended : (value : Unit {0}) → (whole_run program bound input).stands ≡ Ended → IsDue (whole_run program bound input).stands (Ok value)
   due-ended value ended = subst (λ (standing : Standing). IsDue standing (Ok value)) (sym ended) (inl refl)
 
   -- want of memory
-  pub due-wanting : (answer : Result (Unit {0}) StopErr) → answer ≡ Err errors.Memory → IsDue (whole program bound input).stands answer
-  due-wanting answer is = subst (λ (a : Result (Unit {0}) StopErr). IsDue (whole program bound input).stands a) (sym is) due-memory
+  pub due-wanting : (answer : Result (Unit {0}) StopErr) → answer ≡ Err errors.Memory → IsDue (whole_run program bound input).stands answer
+  due-wanting answer is = subst (λ (a : Result (Unit {0}) StopErr). IsDue (whole_run program bound input).stands a) (sym is) due-memory
 
-  due-trapped : (trap : Trap) → (whole program bound input).stands ≡ Trapped trap → IsDue (whole program bound input).stands (Err (errors.Trapped trap))
+  due-trapped : (trap : Trap) → (whole_run program bound input).stands ≡ Trapped trap → IsDue (whole_run program bound input).stands (Err (errors.Trapped trap))
   due-trapped trap trapped = subst (λ (standing : Standing). IsDue standing (Err (errors.Trapped trap))) (sym trapped) (inl refl)
 
   pub due-unopened :
       (answer : Result (Unit {0}) StopErr) (why : StoreErr) → answer ≡ Err (of_store why) → (why ≡ store_errors.NotStore → ⊥) →
       ((page : ℕ) → why ≡ store_errors.Damaged page → ⊥) → (why ≡ store_errors.Disk → ⊥) →
-      IsDue (whole program bound input).stands answer
+      IsDue (whole_run program bound input).stands answer
   due-unopened answer why is store sound disk =
-      subst (λ (a : Result (Unit {0}) StopErr). IsDue (whole program bound input).stands a) (sym is) (by_why why store sound disk)
+      subst (λ (a : Result (Unit {0}) StopErr). IsDue (whole_run program bound input).stands a) (sym is) (by_why why store sound disk)
     where
       by_why :
           (why : StoreErr) → (why ≡ store_errors.NotStore → ⊥) → ((page : ℕ) → why ≡ store_errors.Damaged page → ⊥) →
-          (why ≡ store_errors.Disk → ⊥) → IsDue (whole program bound input).stands (Err (of_store why))
+          (why ≡ store_errors.Disk → ⊥) → IsDue (whole_run program bound input).stands (Err (of_store why))
       by_why store_errors.NotStore store sound disk = absurd (store refl)
       by_why store_errors.Disk store sound disk = absurd (disk refl)
       by_why (store_errors.Damaged page) store sound disk = absurd (sound page refl)
@@ -158,15 +158,15 @@ module _ (program : StoredProgram) (bound : List Bound) (input : List ℕ) where
 
   pub due-stopped :
       (answer : Result (Unit {0}) StopErr) (why : BodyErr) → answer ≡ Err (of_body why) →
-      ((trap : Trap) → why ≡ body_errors.Trapped trap → (whole program bound input).stands ≡ Trapped trap) →
-      (why ≡ body_errors.DiskFault → ⊥) → (why ≡ body_errors.OutFault → ⊥) → IsDue (whole program bound input).stands answer
+      ((trap : Trap) → why ≡ body_errors.Trapped trap → (whole_run program bound input).stands ≡ Trapped trap) →
+      (why ≡ body_errors.DiskFault → ⊥) → (why ≡ body_errors.OutFault → ⊥) → IsDue (whole_run program bound input).stands answer
   due-stopped answer why is trapped disk out =
-      subst (λ (a : Result (Unit {0}) StopErr). IsDue (whole program bound input).stands a) (sym is) (by_why why trapped disk out)
+      subst (λ (a : Result (Unit {0}) StopErr). IsDue (whole_run program bound input).stands a) (sym is) (by_why why trapped disk out)
     where
       by_why :
-          (why : BodyErr) → ((trap : Trap) → why ≡ body_errors.Trapped trap → (whole program bound input).stands ≡ Trapped trap) →
+          (why : BodyErr) → ((trap : Trap) → why ≡ body_errors.Trapped trap → (whole_run program bound input).stands ≡ Trapped trap) →
           (why ≡ body_errors.DiskFault → ⊥) → (why ≡ body_errors.OutFault → ⊥) →
-          IsDue (whole program bound input).stands (Err (of_body why))
+          IsDue (whole_run program bound input).stands (Err (of_body why))
       by_why (body_errors.Trapped trap) trapped disk out = due-trapped trap (trapped trap refl)
       by_why body_errors.DiskFault trapped disk out = absurd (disk refl)
       by_why body_errors.OutFault trapped disk out = absurd (out refl)

@@ -5,7 +5,7 @@ use Rattle.dbpl_stored_program.proofs.Databases.{bound-is_there}
 use Rattle.dbpl_stored_program.proofs.Statements.{whole-comes_to}
 use Rattle.dbpl_core.specs.Events.{Event}
 use Rattle.dbpl_stored_program.specs.Meaning.{Outcome, Standing}
-use Rattle.dbpl_stored_program.specs.Whole.{comes_to, events_of, whole}
+use Rattle.dbpl_stored_program.specs.Whole.{comes_to, events_of, whole_run}
 use Rattle.dbpl_stored_program.specs.declared.stored_program.StoredProgram.{StoredProgram}
 use Rattle.dbpl_value.specs.Binding.{Binds, Differs}
 use Rattle.dbpl_log.specs.Records.{HasHead}
@@ -75,8 +75,8 @@ module _ (program : StoredProgram) (tells : Bool) (store : Store) (h0 h1 : Histo
       (subst (λ (d : List Bound). Binds program.relation d (database_in store)) (committed-is told database reads) begins.binds)
       binds
 
-  -- its whole is what its statements come to
-  whole-is : whole program (database_in store) (now h0).input ≡ comes_to program program.body (database_in store)
+  -- its whole run is what its statements come to
+  whole-is : whole_run program (database_in store) (now h0).input ≡ comes_to program program.body (database_in store)
   whole-is =
       let there = bound-is_there program.relation (committed_of store) (database_in store) begins.binds in
       whole-comes_to program (database_in store) (now h0).input there.0 there.1
@@ -126,9 +126,9 @@ module _ (program : StoredProgram) (tells : Bool) (store : Store) (h0 h1 : Histo
     pub begun-stands :
         (told : IsTrue tells) (database bound : List Bound) → ReadsAs database (now h0) → Binds program.relation database bound →
         (standing : Standing) → standing_by program program.body (database_in store) ≡ standing →
-        (whole program bound (now h0).input).stands ≡ standing
+        (whole_run program bound (now h0).input).stands ≡ standing
     begun-stands told database bound reads binds standing stands =
-        ap (λ (b : List Bound). (whole program b (now h0).input).stands) (sym (bound-is told database bound reads binds))
+        ap (λ (b : List Bound). (whole_run program b (now h0).input).stands) (sym (bound-is told database bound reads binds))
         ∙ ap (λ (outcome : Outcome). outcome.stands) whole-is ∙ stands
 
     pub begun-run :

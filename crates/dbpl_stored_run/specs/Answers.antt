@@ -1,7 +1,7 @@
 -- Why each answer of a run comes.
 use Rattle.std.specs.Prelude.{◌≡◌, ◌⊎◌, Bool, Err, IsOk, IsTrue, List, Result, Some}
 use Rattle.dbpl_stored_program.specs.Meaning.{Ended, Going, Standing, Trapped}
-use Rattle.dbpl_stored_program.specs.Whole.{events_of, whole}
+use Rattle.dbpl_stored_program.specs.Whole.{events_of, whole_run}
 use Rattle.dbpl_stored_program.specs.declared.stored_program.StoredProgram.{StoredProgram}
 use Rattle.dbpl_value.specs.Binding.{Binds, Differs}
 use Rattle.dbpl_store.specs.Stands.{stands}
@@ -23,7 +23,7 @@ pub record HasRun (program : StoredProgram) (standing : Standing) (tells : Bool)
   pub bound : List Bound
   pub stood : IsTrue tells → ReadsAs database (now old)
   pub binds : Binds program.relation database bound
-  pub ends : (whole program bound (now old).input).stands ≡ standing
+  pub ends : (whole_run program bound (now old).input).stands ≡ standing
   pub made : IsTrue tells → HasMade (events_of program bound (now old).input) database (now old) (now new)
 
 -- The database of the store has the relation variable with another type. Where the world tells, the store stood for it.

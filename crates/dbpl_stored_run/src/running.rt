@@ -2,7 +2,7 @@
 ghost use Rattle.std.specs.Prelude.{◌≡◌, ◌⊎◌, ℕ, Err, IfErr, IsSome, IsTrue, List, None, OnOk};
 ghost use Rattle.dbpl_stored_program.specs.Meaning.{Ended, Trapped};
 ghost use Rattle.dbpl_stored_program.specs.Programs.{is_small_program};
-ghost use Rattle.dbpl_stored_program.specs.Whole.{events_of, whole};
+ghost use Rattle.dbpl_stored_program.specs.Whole.{events_of, whole_run};
 ghost use Rattle.dbpl_core.specs.declared.trap.Trap.{Trap as AnyTrap};
 ghost use Rattle.dbpl_value.specs.Binding.{Binds, Differs};
 ghost use Rattle.dbpl_log.specs.Records.{HasHead};
@@ -43,7 +43,7 @@ pub fn run_stored<W: World>(
         (trap : AnyTrap) → result ≡ Err (errors.Trapped trap) → HasMade (events_of program.now bound (now (W.history world.old)).input) database (now (W.history world.old)) (now (W.history world.new)) }
     ensures complete { IsTrue W.tells → (database bound : List Bound) → ReadsAs database (now (W.history world.old)) → Binds program.now.relation database bound →
         (Rose (W.counts world.old).disk_faults (W.counts world.new).disk_faults → ⊥) → (Rose (W.counts world.old).say_faults (W.counts world.new).say_faults → ⊥) →
-        IsDue (whole program.now bound (now (W.history world.old)).input).stands result }
+        IsDue (whole_run program.now bound (now (W.history world.old)).input).stands result }
 
     // When each answer comes.
     ensures ended { OnOk result (HasRun program.now Ended W.tells (W.history world.old) (W.history world.new)) }

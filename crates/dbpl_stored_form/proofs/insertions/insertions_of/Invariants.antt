@@ -1,9 +1,9 @@
 -- So far the statements before the index are insertions.
 use Rattle.std.proofs.Common.{◌≡◌, ◌∷◌, Some, take}
-use Rattle.dbpl_stored_form.specs.Lists.{all_of}
+use Rattle.dbpl_stored_form.specs.Lists.{joined_all}
 use Rattle.dbpl_stored_form.specs.Statements.{insertions_in}
 use Rattle.dbpl_stored_form.proofs.insertions.insertions_of.Given as goal
 
 abbrev pub invariant-loop-statement : goal.invariant-loop-statement
 invariant-loop-statement l =
-    all_of (insertions_in l.fn.schema) (l.fn.first ∷ take l.statement-index l.others) ≡ Some l.insertions
+    joined_all (insertions_in l.fn.schema) (l.fn.first ∷ take l.statement-index l.others) ≡ Some l.insertions

@@ -10,5 +10,5 @@ use Rattle.dbpl_parse_statement.proofs.body.Body.other_statements.Goals as goal
 
 pub returns-in_err-one : goal.returns-in_err-one
 returns-in_err-one g c =
-    let failed = λ (refused : Refused). fails (lexeme.semicolon ∷ []) (after lexeme.semicolon (spec.statement_with (at_depth c.args.self.now.depth) (spec.statements_at c.args.self.now.depth))) c.turns-turn-end.result c.loop-turn._turn c.loop-turn.found (drop c.loop-turn.next c.args.tokens.now) (many (lexeme.semicolon ∷ []) (after lexeme.semicolon (spec.statement_with (at_depth c.args.self.now.depth) (spec.statements_at c.args.self.now.depth))) (drop c.args.at c.args.tokens.now)) refused c.loop-turn-test.true c.loop-turn.invariant (sym c.begins_sign.ensures ∙ c.if-not-begins_sign.false) in
+    let failed = λ (refused : Refused). fails (lexeme.semicolon ∷ []) (after lexeme.semicolon (spec.statement_by (at_depth c.args.self.now.depth) (spec.statements_at c.args.self.now.depth))) c.turns-turn-end.result c.loop-turn._turn c.loop-turn.found (drop c.loop-turn.next c.args.tokens.now) (many (lexeme.semicolon ∷ []) (after lexeme.semicolon (spec.statement_by (at_depth c.args.self.now.depth) (spec.statements_at c.args.self.now.depth))) (drop c.args.at c.args.tokens.now)) refused c.loop-turn-test.true c.loop-turn.invariant (sym c.begins_sign.ensures ∙ c.if-not-begins_sign.false) in
     first_of (search rules, grind (arith, common_steps))

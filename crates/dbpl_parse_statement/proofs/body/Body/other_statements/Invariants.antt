@@ -8,4 +8,4 @@ use Rattle.dbpl_parse_statement.proofs.body.Body.other_statements.Given as goal
 
 abbrev pub invariant-loop-turn : goal.invariant-loop-turn
 invariant-loop-turn g l =
-    many (lexeme.semicolon ∷ []) (after lexeme.semicolon (spec.statement_with (at_depth l.self.depth) (spec.statements_at l.self.depth))) (drop l.fn.at l.fn.tokens) ≡ many_from (lexeme.semicolon ∷ []) (after lexeme.semicolon (spec.statement_with (at_depth l.self.depth) (spec.statements_at l.self.depth))) (l._turn-end - l._turn) l.found (drop l.next l.tokens)
+    many (lexeme.semicolon ∷ []) (after lexeme.semicolon (spec.statement_by (at_depth l.self.depth) (spec.statements_at l.self.depth))) (drop l.fn.at l.fn.tokens) ≡ many_from (lexeme.semicolon ∷ []) (after lexeme.semicolon (spec.statement_by (at_depth l.self.depth) (spec.statements_at l.self.depth))) (l._turn-end - l._turn) l.found (drop l.next l.tokens)
