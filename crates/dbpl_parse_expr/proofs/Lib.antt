@@ -1,4 +1,4 @@
-pub mod Answered
+pub mod CallLaw
 pub mod Depth
 pub mod Loops
 pub mod Pairs

@@ -4,7 +4,7 @@ use Rattle.dbpl_base.specs.declared.limits.TheConstants.{PHRASE_DEPTH}
 use Rattle.dbpl_grammar.specs.Expressions.{aggregate, at_depth}
 use Rattle.dbpl_tree.specs.Depths.{aggregate_depth}
 use Rattle.dbpl_tree.specs.Factors.{aggregate_marks}
-use Rattle.dbpl_parse_expr.proofs.Answered.{PhraseLaws, is_answer}
+use Rattle.dbpl_parse_expr.proofs.CallLaw.{PhraseLaws, is_answer}
 use Rattle.dbpl_parse_expr.proofs.calls.parse_aggregate.Goals as goal
 
 pub returns : goal.returns

@@ -5,7 +5,7 @@ use Rattle.dbpl_grammar.specs.Expressions.{at_depth}
 use Rattle.dbpl_tree.specs.Depths.{expr_depth, factor_depth}
 use Rattle.dbpl_tree.specs.Expressions.{expr_marks}
 use Rattle.dbpl_tree.specs.Factors.{factor_marks}
-use Rattle.dbpl_parse_expr.proofs.Answered.{PhraseLaws, is_answer}
+use Rattle.dbpl_parse_expr.proofs.CallLaw.{PhraseLaws, is_answer}
 use Rattle.dbpl_parse_expr.proofs.calls.parse_expr.Goals as goal
 
 pub returns : goal.returns
