@@ -9,7 +9,7 @@ ghost use Rattle.dbpl_base.specs.Scans.{lexemes_of};
 ghost use Rattle.dbpl_base.specs.declared.place.Place.{Place};
 ghost use Rattle.dbpl_base.specs.declared.token.Token.{Token};
 ghost use Rattle.dbpl_scan.specs.Comments.{Scans};
-ghost use Rattle.dbpl_tree.specs.Units.{spell_module as whole_spell};
+ghost use Rattle.dbpl_tree.specs.Units.{spell};
 ghost use Rattle.dbpl_tree.specs.declared.unit.Unit.{Unit as Tree};
 
 /// A text has one answer: it is one module, or it is refused at one place by one rule.
@@ -23,7 +23,7 @@ pub fn one_answer()
 pub fn one_form()
     ensures found { (place : Place) (program : Program) → IsSmall program → small_of (unit_of place program) ≡ Some program }
     ensures small { (unit : Tree) (program : Program) → small_of unit ≡ Some program → IsSmall program }
-    ensures spelled { (unit : Tree) (program : Program) → small_of unit ≡ Some program → whole_spell unit ≡ spell_module program }
-    ensures spelling { (place : Place) (program : Program) → whole_spell (unit_of place program) ≡ spell_module program }
+    ensures spelled { (unit : Tree) (program : Program) → small_of unit ≡ Some program → spell unit ≡ spell_module program }
+    ensures spelling { (place : Place) (program : Program) → spell (unit_of place program) ≡ spell_module program }
     ensures texts { (text : List ℕ) (tokens : List Token) (program : Program) → IsSmall program → Scans 0 text tokens → lexemes_of tokens ≡ spell_module program → IsModule text program }
 {}
