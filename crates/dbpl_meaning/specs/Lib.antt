@@ -1,0 +1,9 @@
+pub mod Declared
+pub mod Expressions
+pub mod InOut
+pub mod Meaning
+pub mod Numbers
+pub mod Reading
+pub mod State
+pub mod Statements
+pub mod Words
