@@ -31,3 +31,8 @@ pub data Ran (A : Type 0) : Type 0 where
 
 abbrev pub Doing : Type 0 → Type 0
 Doing A = State → Ran A
+
+-- the state in which a phrase is done, or stops
+abbrev pub state_in : {A : Type 0} → Ran A → State
+state_in (Done a state) = state
+state_in (Stops stop state) = state

@@ -1,0 +1,6 @@
+pub mod Goes
+pub mod Levels
+pub mod Rows
+pub mod Steady
+pub mod Trees
+pub mod Whole
