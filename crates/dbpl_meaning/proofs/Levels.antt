@@ -1,13 +1,13 @@
 -- One level of an expression or a statement: what it means is its row, with the meanings of the expressions and statements in
 -- it.
-use Rattle.std.proofs.Common.{◌≡◌, ℕ, ℤ, ◌+ℤ◌, Bool, true, not, List, [], ◌∷◌, ◌++◌, Option, Some, None, ap, if◌then◌else◌, map, refl, ◌∙◌}
+use Rattle.std.proofs.Common.{◌≡◌, ℕ, ℤ, ◌+ℤ◌, Bool, true, not, List, [], ◌∷◌, ◌++◌, Option, Some, None, ap, if◌then◌else◌, map, refl, sym, ◌∙◌}
 use Rattle.dbpl_base.specs.declared.place.Place.{Place}
 use Rattle.dbpl_core.specs.declared.argument_of.CoreArgumentOf.{CoreArgumentOf}
 use Rattle.dbpl_core.specs.declared.argument_of.CoreArgumentOf.TheVariants as arguments
 use Rattle.dbpl_core.specs.declared.arm_of.CoreArmOf.{CoreArmOf}
 use Rattle.dbpl_core.specs.declared.branch_of.CoreBranchOf.{CoreBranchOf}
 use Rattle.dbpl_core.specs.declared.control_of.CoreControlOf.{CoreControlOf}
-use Rattle.dbpl_core.specs.declared.expr.CoreExpr.{CoreExpr, CoreExpr-F, fold-roll-CoreExpr, map-CoreExpr, roll-CoreExpr}
+use Rattle.dbpl_core.specs.declared.expr.CoreExpr.{CoreExpr, CoreExpr-F, fold-roll-CoreExpr, map-CoreExpr, out-CoreExpr, roll-CoreExpr, roll-out-CoreExpr}
 use Rattle.dbpl_core.specs.declared.expr.CoreExpr.TheOpen as exprs
 use Rattle.dbpl_core.specs.declared.expr.CoreExpr.TheShapes as shapes
 use Rattle.dbpl_core.specs.declared.program.Program.{Program}
@@ -15,7 +15,7 @@ use Rattle.dbpl_core.specs.declared.reference.Reference.{Reference}
 use Rattle.dbpl_core.specs.declared.root.Root.{Root}
 use Rattle.dbpl_core.specs.declared.step_of.CoreStepOf.{CoreStepOf}
 use Rattle.dbpl_core.specs.declared.step_of.CoreStepOf.TheVariants as steps
-use Rattle.dbpl_core.specs.declared.stmt.CoreStmtOf.{CoreStmtOf, CoreStmtOf-F, fold-roll-CoreStmtOf, map-CoreStmtOf, roll-CoreStmtOf}
+use Rattle.dbpl_core.specs.declared.stmt.CoreStmtOf.{CoreStmtOf, CoreStmtOf-F, fold-roll-CoreStmtOf, map-CoreStmtOf, out-CoreStmtOf, roll-CoreStmtOf, roll-out-CoreStmtOf}
 use Rattle.dbpl_core.specs.declared.stmt.CoreStmtOf.TheOpen as stmts
 use Rattle.dbpl_core.specs.declared.stmt.CoreStmtOf.TheShapes as stmt_shapes
 use Rattle.dbpl_meaning.specs.Expressions as expressions
@@ -133,6 +133,13 @@ pub value_of-roll :
     value_of program calls (roll-CoreExpr x) ≡ value_level program (meaning_of program calls) calls x
 value_of-roll program calls x = ap (λ (meaning : Meaning). meaning.value) (meaning_of-roll program calls x)
 
+-- and opened
+pub value_of-out :
+    (program : Program) (calls : Calls) (e : CoreExpr) →
+    value_of program calls e ≡ value_level program (meaning_of program calls) calls (out-CoreExpr e)
+value_of-out program calls e =
+    ap (λ (e : CoreExpr). value_of program calls e) (sym (roll-out-CoreExpr e)) ∙ value_of-roll program calls (out-CoreExpr e)
+
 -- ---- statements: other things in place of the statements in one
 
 module _ (program : Program) (calls : Calls) {S T : Type 0} (doing : T → Doing (Unit {0})) (f : S → T) where
@@ -206,3 +213,11 @@ unfolding does
 does-roll program calls x =
     fold-roll-CoreStmtOf CoreExpr (Doing (Unit {0})) (does_level program calls statements.its_doing) x ∙
     does-map program calls statements.its_doing (does program calls) x
+
+-- and opened
+pub does-out :
+    (program : Program) (calls : Calls) (s : CoreStmtOf CoreExpr) →
+    does program calls s ≡ does_level program calls (does program calls) (out-CoreStmtOf CoreExpr s)
+does-out program calls s =
+    ap (λ (s : CoreStmtOf CoreExpr). does program calls s) (sym (roll-out-CoreStmtOf CoreExpr s)) ∙
+    does-roll program calls (out-CoreStmtOf CoreExpr s)

@@ -175,6 +175,16 @@ steady_turn doing steady = record {
   on = λ others further state e. turn-on doing steady state.left others further state e;
 }
 
+pub turn-none : {A : Type 0} (doing : Doing A) (state : State) → state.left ≡ 0 → turn doing state ≡ Stops Going state
+unfolding turn
+turn-none doing state none = ap (λ (left : ℕ). turn_with left doing state) none
+
+pub turn-one :
+    {A : Type 0} (doing : Doing A) (state : State) (left : ℕ) → state.left ≡ suc left →
+    turn doing state ≡ doing (record state { left = left; work = state.work + 1 })
+unfolding turn
+turn-one doing state left one = ap (λ (left : ℕ). turn_with left doing state) one
+
 -- where a turn is done, one turn less is left
 turn-less :
     {A : Type 0} (doing : Doing A) → Keeps doing → (left : ℕ) (state : State) (a : A) (later : State) →

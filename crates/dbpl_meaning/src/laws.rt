@@ -1,4 +1,49 @@
 // Laws of the meaning, each the contract of a function that does nothing.
+ghost use Rattle.std.specs.Prelude.{◌≡◌, ◌≤◌, ◌+◌, ◌++◌, ℕ, suc, List};
+ghost use Rattle.dbpl_base.specs.declared.place.Place.{Place as AnyPlace};
+ghost use Rattle.dbpl_core.specs.Events.{Event};
+ghost use Rattle.dbpl_core.specs.declared.cell.Cell.{Cell as AnyCell};
+ghost use Rattle.dbpl_core.specs.declared.expr.CoreExpr.{CoreExpr as Expr, CoreExpr-F, out-CoreExpr, roll-CoreExpr};
+ghost use Rattle.dbpl_core.specs.declared.program.Program.{Program as AnyProgram};
+ghost use Rattle.dbpl_core.specs.declared.stmt.CoreStmtOf.{CoreStmtOf as StmtOf, CoreStmtOf-F, out-CoreStmtOf, roll-CoreStmtOf};
+ghost use Rattle.dbpl_meaning.specs.Expressions.{Calls, meaning_of, value_level, value_of};
+ghost use Rattle.dbpl_meaning.specs.Meaning.{calls_at, limit, meaning, named_does, runs};
+ghost use Rattle.dbpl_meaning.specs.Meaning as whole;
+ghost use Rattle.dbpl_meaning.specs.State.{Doing, Going, State, Stops, state_in};
+ghost use Rattle.dbpl_meaning.specs.Statements.{does, does_level};
+ghost use Rattle.dbpl_meaning.specs.Words.{traps, turn};
+ghost use Rattle.dbpl_value.specs.declared.bound.Bound.{Bound};
 
-/// A place holder.
-pub fn meaning_is_steady() {}
+/// More turns only add events, input that is taken, and work; and a run that has come to an end stays exactly as it is.
+pub fn meaning_is_steady()
+    ensures extends { (program : AnyProgram) (database : List Bound) (input : List ℕ) (turns others : ℕ) → (rest : List Event) × ((meaning program database input (turns + others)).events ≡ (meaning program database input turns).events ++ rest) }
+    ensures takes { (program : AnyProgram) (database : List Bound) (input : List ℕ) (turns others : ℕ) → (taken : List ℕ) × ((meaning program database input turns).input ≡ taken ++ (meaning program database input (turns + others)).input) }
+    ensures works { (program : AnyProgram) (database : List Bound) (input : List ℕ) (turns others : ℕ) → (meaning program database input turns).work ≤ (meaning program database input (turns + others)).work }
+    ensures stays { (program : AnyProgram) (database : List Bound) (input : List ℕ) (turns others : ℕ) → ((meaning program database input turns).stands ≡ whole.Going → ⊥) → meaning program database input (turns + others) ≡ meaning program database input turns }
+{}
+
+/// A turn begins only where one is left, and then one less is left and one more work is done. A run has no more turns left
+/// than it was given, and those that it used are no more than its work.
+pub fn loops_take_turns()
+    ensures none { (doing : Doing (Unit {0})) (state : State) → state.left ≡ 0 → turn doing state ≡ Stops Going state }
+    ensures one { (doing : Doing (Unit {0})) (state : State) (left : ℕ) → state.left ≡ suc left → turn doing state ≡ doing (record state { left = left; work = state.work + 1 }) }
+    ensures left { (program : AnyProgram) (database : List Bound) (input : List ℕ) (turns : ℕ) → (state_in (runs program database input turns)).left ≤ turns }
+    ensures paid { (program : AnyProgram) (database : List Bound) (input : List ℕ) (turns : ℕ) → turns ≤ (state_in (runs program database input turns)).left + (state_in (runs program database input turns)).work }
+{}
+
+/// A call is a turn in which one call less may be open, and trap 7 where none may be.
+pub fn calls_are_limited()
+    ensures limit { limit ≡ 10000 }
+    ensures none { (program : AnyProgram) (place : AnyPlace) (owner name : List ℕ) (cells : List AnyCell) → (calls_at program 0).routine place owner name cells ≡ traps 7 place }
+    ensures none_of_in_out { (program : AnyProgram) (place : AnyPlace) (doing : Doing (Unit {0})) → (calls_at program 0).in_out place doing ≡ traps 7 place }
+    ensures one { (program : AnyProgram) (room : ℕ) (place : AnyPlace) (owner name : List ℕ) (cells : List AnyCell) → (calls_at program (suc room)).routine place owner name cells ≡ turn (named_does program (calls_at program room) owner name cells) }
+    ensures one_of_in_out { (program : AnyProgram) (room : ℕ) (place : AnyPlace) (doing : Doing (Unit {0})) → (calls_at program (suc room)).in_out place doing ≡ turn doing }
+{}
+
+/// What an expression or a statement means is its row, whether it is taken apart or made.
+pub fn meaning_by_rows()
+    ensures expression { (program : AnyProgram) (calls : Calls) (e : Expr) → value_of program calls e ≡ value_level program (meaning_of program calls) calls (out-CoreExpr e) }
+    ensures expression_made { (program : AnyProgram) (calls : Calls) (level : CoreExpr-F Expr) → value_of program calls (roll-CoreExpr level) ≡ value_level program (meaning_of program calls) calls level }
+    ensures statement { (program : AnyProgram) (calls : Calls) (s : StmtOf Expr) → does program calls s ≡ does_level program calls (does program calls) (out-CoreStmtOf Expr s) }
+    ensures statement_made { (program : AnyProgram) (calls : Calls) (level : CoreStmtOf-F Expr (StmtOf Expr)) → does program calls (roll-CoreStmtOf Expr level) ≡ does_level program calls (does program calls) level }
+{}

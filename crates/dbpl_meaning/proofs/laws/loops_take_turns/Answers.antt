@@ -1,0 +1,16 @@
+-- By cases on the turns left, and by the law of each phrase.
+use Rattle.dbpl_meaning.proofs.Steady.{turn-none, turn-one}
+use Rattle.dbpl_meaning.proofs.Whole.{runs-fewer, runs-paid}
+use Rattle.dbpl_meaning.proofs.laws.loops_take_turns.Goals as goal
+
+pub returns-clause-none : goal.returns-clause-none
+returns-clause-none c = λ doing state none. turn-none doing state none
+
+pub returns-clause-one : goal.returns-clause-one
+returns-clause-one c = λ doing state left one. turn-one doing state left one
+
+pub returns-clause-left : goal.returns-clause-left
+returns-clause-left c = runs-fewer
+
+pub returns-clause-paid : goal.returns-clause-paid
+returns-clause-paid c = runs-paid
