@@ -148,8 +148,8 @@ module _ (program : Program) (calls : Calls) {S T : Type 0} (doing : T → Doing
 
   else-map :
       (otherwise : Doing (Unit {0})) (body : Option (List S)) →
-      or_else program calls doing otherwise ((stmt_shapes.former-CoreStmtOf-If-2 CoreExpr).map S T f body)
-      ≡ or_else program calls made otherwise body
+      or_else doing otherwise ((stmt_shapes.former-CoreStmtOf-If-2 CoreExpr).map S T f body)
+      ≡ or_else made otherwise body
   else-map otherwise None = refl
   else-map otherwise (Some body) = block-map doing f body
 
@@ -165,9 +165,9 @@ module _ (program : Program) (calls : Calls) {S T : Type 0} (doing : T → Doing
 
   branches-map :
       (n : ℤ) (branches : List (CoreBranchOf S)) (one other : Doing (Unit {0})) → one ≡ other →
-      first_labelled program calls doing n
+      first_labelled doing n
       (map (λ branch. record { labels = branch.labels; statements = map f branch.statements }) branches) one
-      ≡ first_labelled program calls made n branches other
+      ≡ first_labelled made n branches other
   branches-map n [] one other e = e
   branches-map n (branch ∷ branches) one other e =
       λ i. is_labelled n branch.labels >>= (λ has.

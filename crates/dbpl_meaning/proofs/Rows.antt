@@ -253,7 +253,7 @@ module _ (program : Program) (calls : Calls) (steady : AreSteady calls)
   steady_returned None = steady_gives _
   steady_returned (Some e) = steady_bind _ _ (inner e) (λ v. steady_gives _)
 
-  steady_without_result : (result : Option Value) → IsSteady (without_result program calls result)
+  steady_without_result : (result : Option Value) → IsSteady (without_result result)
   steady_without_result None = steady_nothing
   steady_without_result (Some v) = steady_stops _
 
@@ -263,7 +263,7 @@ module _ (program : Program) (calls : Calls) (steady : AreSteady calls)
       steady_bind _ _ (steady_fitted control.kind control.variable.place n) (λ fits. steady_assigns reference _))
 
   module _ {S : Type 0} (does : S → Doing (Unit {0})) (each : (s : S) → IsSteady (does s)) where
-    steady_or_else : (otherwise : Doing (Unit {0})) (body : Option (List S)) → IsSteady otherwise → IsSteady (or_else program calls does otherwise body)
+    steady_or_else : (otherwise : Doing (Unit {0})) (body : Option (List S)) → IsSteady otherwise → IsSteady (or_else does otherwise body)
     steady_or_else otherwise None other = other
     steady_or_else otherwise (Some statements) other = steady_block does each statements
 
@@ -277,13 +277,13 @@ module _ (program : Program) (calls : Calls) (steady : AreSteady calls)
 
     steady_first_labelled :
         (n : ℤ) (branches : List (CoreBranchOf S)) (otherwise : Doing (Unit {0})) → IsSteady otherwise →
-        IsSteady (first_labelled program calls does n branches otherwise)
+        IsSteady (first_labelled does n branches otherwise)
     steady_first_labelled n [] otherwise other = other
     steady_first_labelled n (branch ∷ branches) otherwise other =
         steady_bind _ _ (steady_labelled n branch.labels) (λ has.
         steady_if has _ _ (steady_block does each branch.statements) (steady_first_labelled n branches otherwise other))
 
-    steady_round : (body : List S) (before : Unit {0}) → IsSteady (round program calls does body before)
+    steady_round : (body : List S) (before : Unit {0}) → IsSteady (round does body before)
     steady_round body before = steady_block does each body
 
     steady_round_until : (body : List S) (e : CoreExpr) (before : Bool) → IsSteady (round_until program calls does body e before)

@@ -71,7 +71,7 @@ module _ (program : Program) (calls : Calls) (steady : AreSteady calls) where
   steady_named_does owner name cells =
       steady_bind _ _ (steady_there _) (λ routine. steady_routine_does cells routine)
 
-  steady_without_value : (leaving : Leaving) → IsSteady (without_value program calls leaving)
+  steady_without_value : (leaving : Leaving) → IsSteady (without_value leaving)
   steady_without_value AtEnd = steady_nothing
   steady_without_value (ByReturn None) = steady_nothing
   steady_without_value (ByReturn (Some v)) = steady_stops _

@@ -37,6 +37,11 @@ result_of (Some kind) finish (ByReturn (Some v)) = do
   gives (Some checked)
 result_of kind finish _ = stops phrase.Wrong
 
+-- a body gives no value
+abbrev pub without_value : Leaving → Doing (Unit {0})
+without_value (ByReturn (Some v)) = stops phrase.Wrong
+without_value leaving = nothing
+
 module _ (program : Program) (calls : Calls) where
   -- what a routine does, whose calls are these: its parameters have these cells, its local variables their start values
   abbrev pub routine_does : List Cell → Routine → Doing (Option Value)
@@ -49,10 +54,6 @@ module _ (program : Program) (calls : Calls) where
   named_does owner name cells = do
     routine ← there (routine_named program owner name)
     routine_does cells routine
-
-  abbrev pub without_value : Leaving → Doing (Unit {0})
-  without_value (ByReturn (Some v)) = stops phrase.Wrong
-  without_value leaving = nothing
 
   -- what a module's body does
   abbrev pub body_does : CoreUnit → Doing (Unit {0})

@@ -98,6 +98,27 @@ is_labelled n (label ∷ labels) = do
   spend 1
   if is_in label n then gives true else is_labelled n labels
 
+-- a procedure gives no result
+abbrev pub without_result : Option Value → Doing (Unit {0})
+without_result None = nothing
+without_result (Some v) = stops Wrong
+
+module _ {S : Type 0} (does : S → Doing (Unit {0})) where
+  -- the statements behind ELSE, and else this
+  abbrev pub or_else : Doing (Unit {0}) → Option (List S) → Doing (Unit {0})
+  or_else otherwise None = otherwise
+  or_else otherwise (Some statements) = block does statements
+
+  abbrev pub first_labelled : ℤ → List (CoreBranchOf S) → Doing (Unit {0}) → Doing (Unit {0})
+  first_labelled n [] otherwise = otherwise
+  first_labelled n (branch ∷ branches) otherwise = do
+    has ← is_labelled n branch.labels
+    if has then block does branch.statements else first_labelled n branches otherwise
+
+  -- a turn of WHILE or LOOP
+  abbrev pub round : List S → Unit {0} → Doing (Unit {0})
+  round body before = block does body
+
 module _ (program : Program) (calls : Calls) where
   abbrev pub of : CoreExpr → Meaning
   of = meaning_of program calls
@@ -125,11 +146,6 @@ module _ (program : Program) (calls : Calls) where
     v ← (of e).value
     gives (Some v)
 
-  -- a procedure gives no result
-  abbrev pub without_result : Option Value → Doing (Unit {0})
-  without_result None = nothing
-  without_result (Some v) = stops Wrong
-
   -- one number of the count: the control variable gets it, where it fits
   abbrev pub control_gets : CoreControlOf CoreExpr → ℤ → Doing (Unit {0})
   control_gets control n = do
@@ -138,26 +154,11 @@ module _ (program : Program) (calls : Calls) where
     assigns reference (value.Num fits)
 
   module _ {S : Type 0} (does : S → Doing (Unit {0})) where
-    -- the statements behind ELSE, and else this
-    abbrev pub or_else : Doing (Unit {0}) → Option (List S) → Doing (Unit {0})
-    or_else otherwise None = otherwise
-    or_else otherwise (Some statements) = block does statements
-
     abbrev pub first_true : List (CoreArmOf CoreExpr S) → Doing (Unit {0}) → Doing (Unit {0})
     first_true [] otherwise = otherwise
     first_true (arm ∷ arms) otherwise = do
       holds ← condition arm.condition
       if holds then block does arm.statements else first_true arms otherwise
-
-    abbrev pub first_labelled : ℤ → List (CoreBranchOf S) → Doing (Unit {0}) → Doing (Unit {0})
-    first_labelled n [] otherwise = otherwise
-    first_labelled n (branch ∷ branches) otherwise = do
-      has ← is_labelled n branch.labels
-      if has then block does branch.statements else first_labelled n branches otherwise
-
-    -- a turn of WHILE or LOOP
-    abbrev pub round : List S → Unit {0} → Doing (Unit {0})
-    round body before = block does body
 
     -- a turn of REPEAT: whether another follows
     abbrev pub round_until : List S → CoreExpr → Bool → Doing Bool
@@ -196,13 +197,13 @@ module _ (program : Program) (calls : Calls) where
       sum ← exact (counted direction n by)
       fits ← fitted kind place sum
       assigns reference (value.Num fits)
-    row (stmts.If place arms otherwise) = first_true arms (or_else nothing otherwise)
+    row (stmts.If place arms otherwise) = first_true arms (or_else does nothing otherwise)
     row (stmts.Case place e host branches otherwise) = do
       n ← number_in_host host e
-      first_labelled n branches (or_else (traps 5 place) otherwise)
-    row (stmts.While place e body) = loops (λ before. condition e) (round body) (tt {0})
+      first_labelled does n branches (or_else does (traps 5 place) otherwise)
+    row (stmts.While place e body) = loops (λ before. condition e) (round does body) (tt {0})
     row (stmts.Repeat place body e) = loops gives (round_until body e) true
-    row (stmts.Loop place body) = up_to_exit (loops (λ before. gives true) (round body) (tt {0}))
+    row (stmts.Loop place body) = up_to_exit (loops (λ before. gives true) (round does body) (tt {0}))
     row (stmts.Return place e) = do
       v ← returned e
       stops (Returning v)
