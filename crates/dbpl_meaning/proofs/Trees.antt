@@ -15,7 +15,7 @@ use Rattle.dbpl_meaning.specs.Expressions.{Calls, meaning_of, value_level, value
 use Rattle.dbpl_meaning.specs.Meaning.{bodies, body_does, calls_at, limit, named_does, result_of, routine_does, without_value}
 use Rattle.dbpl_meaning.specs.State.{Doing}
 use Rattle.dbpl_meaning.specs.Statements.{does, does_level}
-use Rattle.dbpl_meaning.specs.Words.{AtEnd, ByReturn, Leaving}
+use Rattle.dbpl_meaning.specs.Words.{AtEnd, ByReturn, Leaving, traps, turn}
 use Rattle.dbpl_value.specs.declared.db_type.DbType.{DbType}
 use Rattle.dbpl_value.specs.declared.value.Value.{Value}
 
@@ -84,6 +84,7 @@ module _ (program : Program) (calls : Calls) (steady : AreSteady calls) where
 -- ---- the calls, and the whole
 
 pub steady_calls : (program : Program) (room : ℕ) → AreSteady (calls_at program room)
+unfolding calls_at
 steady_calls program zero = record {
   routine = λ place owner name cells. steady_stops _;
   in_out = λ place doing steady. steady_stops _;
@@ -92,6 +93,29 @@ steady_calls program (suc room) = record {
   routine = λ place owner name cells. steady_turn _ (steady_named_does program (calls_at program room) (steady_calls program room) owner name cells);
   in_out = λ place doing steady. steady_turn doing steady;
 }
+
+-- a call where none may be open
+pub no-call :
+    (program : Program) (place : Place) (owner name : List ℕ) (cells : List Cell) →
+    (calls_at program 0).routine place owner name cells ≡ traps 7 place
+unfolding calls_at
+no-call program place owner name cells = refl
+
+pub no-in_out : (program : Program) (place : Place) (doing : Doing (Unit {0})) → (calls_at program 0).in_out place doing ≡ traps 7 place
+unfolding calls_at
+no-in_out program place doing = refl
+
+-- a call where so many more may be open
+pub one-call :
+    (program : Program) (room : ℕ) (place : Place) (owner name : List ℕ) (cells : List Cell) →
+    (calls_at program (suc room)).routine place owner name cells ≡ turn (named_does program (calls_at program room) owner name cells)
+unfolding calls_at
+one-call program room place owner name cells = refl
+
+pub one-in_out :
+    (program : Program) (room : ℕ) (place : Place) (doing : Doing (Unit {0})) → (calls_at program (suc room)).in_out place doing ≡ turn doing
+unfolding calls_at
+one-in_out program room place doing = refl
 
 pub steady_bodies : (program : Program) (numbers : List ℕ) → IsSteady (bodies program numbers)
 steady_bodies program [] = steady_nothing

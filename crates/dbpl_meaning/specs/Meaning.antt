@@ -63,7 +63,7 @@ module _ (program : Program) (calls : Calls) where
         without_value leaving)
 
 -- the calls where so many more may be open
-abbrev pub calls_at : Program → ℕ → Calls
+unfoldable pub calls_at : Program → ℕ → Calls
 calls_at program zero = record {
   routine = λ place owner name cells. traps 7 place;
   in_out = λ place doing. traps 7 place;
