@@ -1,0 +1,144 @@
+-- Small programs, what each comes to and how much work it is, computed from the rows. All places are one here but where a
+-- trap stands.
+use Rattle.std.proofs.Common.{◌≡◌, ◌+◌, ℕ, suc, ℤ, List, [], ◌∷◌, Option, Some, None, pos, refl, ap, ◌∙◌, false}
+use Rattle.std.specs.Prelude.{codes}
+use Rattle.std.specs.Fmt.{digits}
+use Rattle.dbpl_base.specs.declared.place.Place.{Place}
+use Rattle.dbpl_core.specs.Events.{Out}
+use Rattle.dbpl_core.specs.Stores as stores
+use Rattle.dbpl_core.specs.Stores.{Store, first_store}
+use Rattle.dbpl_core.specs.declared.argument_of.CoreArgumentOf.TheVariants as arguments
+use Rattle.dbpl_core.specs.declared.expr.CoreExpr.{CoreExpr, CoreExpr-F, roll-CoreExpr}
+use Rattle.dbpl_core.specs.declared.expr.CoreExpr.TheOpen as exprs
+use Rattle.dbpl_core.specs.declared.in_out_procedure.InOutProcedure.TheVariants as procedures
+use Rattle.dbpl_core.specs.declared.program.Program.{Program}
+use Rattle.dbpl_core.specs.declared.routine.Routine.{Routine}
+use Rattle.dbpl_core.specs.declared.stmt.CoreStmtOf.{CoreStmtOf, CoreStmtOf-F, roll-CoreStmtOf}
+use Rattle.dbpl_core.specs.declared.stmt.CoreStmtOf.TheOpen as stmts
+use Rattle.dbpl_core.specs.declared.unit.CoreUnit.{CoreUnit}
+use Rattle.dbpl_meaning.proofs.Levels.{does-roll, value_of-roll}
+use Rattle.dbpl_meaning.proofs.Running.{after, fits-runs, gives-runs, number-runs, number_of_card-runs, number_text-runs, row-runs, stopped, then, value-runs}
+use Rattle.dbpl_meaning.proofs.Steady.{turn-one}
+use Rattle.dbpl_meaning.proofs.Trees.{one-call, one-in_out}
+use Rattle.dbpl_meaning.specs.Declared.{started_globals}
+use Rattle.dbpl_meaning.specs.Expressions.{Calls, value_of}
+use Rattle.dbpl_meaning.specs.Meaning.{Ended, Outcome, begun, calls_at, limit, meaning, outcome_of, runs, without_value}
+use Rattle.dbpl_meaning.specs.State.{Doing, Done, State, Stops}
+use Rattle.dbpl_meaning.specs.Statements.{does, row}
+use Rattle.dbpl_meaning.specs.Words.{◌>>=◌, ◌>>◌, assigns, block, closes_frame, gives, in_frame, input_left, loops, looks, nothing, opens_frame, replaces, spend, stops, takes_byte, turn, up_to_exit, up_to_return, value_at, variable_at, writes}
+use Rattle.dbpl_value.specs.Types.{is_in, range_of}
+use Rattle.dbpl_value.specs.declared.range.Range.{Range}
+use Rattle.dbpl_value.specs.declared.db_type.DbType.{DbType}
+use Rattle.dbpl_value.specs.declared.db_type.DbType.TheVariants as kinds
+use Rattle.dbpl_value.specs.declared.value.Value.TheVariants as value
+use Rattle.dbpl_value.specs.declared.variable.Variable.{Variable}
+
+abbrev p : Place
+p = record { unit = 0; line = 1; col = 1 }
+
+abbrev Stmt : Type 0
+Stmt = CoreStmtOf CoreExpr
+
+abbrev unit_of : List Variable → List Routine → List Stmt → CoreUnit
+unit_of globals routines body = record { name = codes "M"; form = 3; globals = globals; routines = routines; body = body }
+
+abbrev program_of : List Variable → List Routine → List Stmt → Program
+program_of globals routines body = record { units = unit_of globals routines body ∷ []; order = 0 ∷ [] }
+
+-- what a program comes to whose one body does this
+unfoldable comes_to : Program → Doing (Unit {0}) → List ℕ → ℕ → Outcome
+comes_to program doing input turns =
+    outcome_of
+    ((turn (in_frame [] (up_to_return doing >>= (λ leaving. without_value leaving))) >>= (λ _. nothing))
+    (begun program [] input turns))
+
+of-body :
+    (globals : List Variable) (routines : List Routine) (body : List Stmt) (input : List ℕ) (turns : ℕ) →
+    meaning (program_of globals routines body) [] input turns
+    ≡ comes_to (program_of globals routines body)
+    (block (does (program_of globals routines body) (calls_at (program_of globals routines body) 9999)) body) input turns
+unfolding meaning runs limit ◌>>=◌ gives comes_to
+of-body globals routines body input turns = refl
+
+in_out-open : (program : Program) (room : ℕ) → (calls_at program (suc room)).in_out ≡ (λ place doing. turn doing)
+unfolding calls_at
+in_out-open program room = refl
+
+-- ---- WriteCard(7, 3)
+
+abbrev width : DbType
+width = kinds.Sub kinds.Card (pos 0) (pos 1000)
+
+abbrev seven : CoreExpr-F CoreExpr
+seven = exprs.Number p (pos 7)
+
+abbrev three : CoreExpr-F CoreExpr
+three = exprs.Number p (pos 3)
+
+abbrev write_card : Program
+write_card =
+    program_of [] []
+    (roll-CoreStmtOf CoreExpr (stmts.InOut p procedures.WriteCard
+    (arguments.Value (roll-CoreExpr (exprs.Fitted p kinds.Card (roll-CoreExpr seven))) ∷
+    arguments.Value (roll-CoreExpr (exprs.Fitted p width (roll-CoreExpr three))) ∷ [])) ∷ [])
+
+abbrev cards : Range
+cards = record { least = pos 0; greatest = pos 4294967295 }
+
+card-range : range_of kinds.Card ≡ Some cards
+card-range = rw kinds.outs-Card refl
+
+width-range : range_of width ≡ Some (record { least = pos 0; greatest = pos 1000 })
+width-range = rw (kinds.outs-Sub kinds.Card (pos 0) (pos 1000)) refl
+
+abbrev opened : Program → List ℕ → ℕ → State
+opened program input turns = record { left = turns; work = 1; store = stores.opens [] (first_store (started_globals program) [] input) }
+
+-- a body that comes to its end
+ended-comes :
+    (program : Program) (doing : Doing (Unit {0})) (input : List ℕ) (turns : ℕ) (state : State) →
+    doing (opened program input turns) ≡ Done (tt {0}) state →
+    comes_to program doing input (suc turns)
+    ≡ record { events = state.store.events; stands = Ended; input = state.store.input; work = state.work }
+unfolding comes_to ◌>>=◌ gives turn up_to_return opens_frame closes_frame stores.closes
+ended-comes program doing input turns state is = rw is refl
+
+-- a body of one statement
+one-runs :
+    (program : Program) (calls : Calls) (x : CoreStmtOf-F CoreExpr Stmt) (state further : State) →
+    row program calls (does program calls) x (after 1 state) ≡ Done (tt {0}) further →
+    block (does program calls) (roll-CoreStmtOf CoreExpr x ∷ []) state ≡ Done (tt {0}) further
+one-runs program calls x state further is =
+    then _ _ _ _ _ _ (row-runs program calls x state (Done (tt {0}) further) is) (gives-runs (tt {0}) further)
+
+in_out-runs :
+    (program : Program) (place : Place) (doing : Doing (Unit {0})) (state further : State) (left : ℕ) → state.left ≡ suc left →
+    doing (record state { left = left; work = state.work + 1 }) ≡ Done (tt {0}) further →
+    (calls_at program 9999).in_out place doing state ≡ Done (tt {0}) further
+in_out-runs program place doing state further left some is =
+    ap (λ (phrase : Doing (Unit {0})). phrase state) (one-in_out program 9998 place doing) ∙ turn-one doing state left some ∙ is
+
+abbrev state_with : ℕ → ℕ → Store → State
+state_with left work store = record { left = left; work = work; store = store }
+
+abbrev empty_store : Program → Store
+empty_store program = stores.opens [] (first_store (started_globals program) [] [])
+
+pub write_card-comes : meaning write_card [] [] 100 ≡ record { events = Out 32 ∷ Out 32 ∷ Out 55 ∷ []; stands = Ended; input = []; work = 29 }
+unfolding gives writes stores.says stores.opens digits
+write_card-comes =
+    let calls : Calls = calls_at write_card 9999 in
+    of-body _ _ _ _ _ ∙
+    ended-comes write_card _ [] 99 (state_with 98 29 (stores.says (32 ∷ 32 ∷ 55 ∷ []) (empty_store write_card)))
+    (one-runs write_card calls _ _ _
+    (then _ _ _ _ _ _
+    (then _ _ _ _ _ _
+    (then _ _ _ _ _ _ (fits-runs write_card calls p kinds.Card cards _ _ _ _ card-range refl (number_text-runs write_card calls p (pos 7) _)) (gives-runs _ _))
+    (then _ _ _ _ _ _
+    (then _ _ _ _ _ _
+    (then _ _ _ _ _ _ (fits-runs write_card calls p width _ _ _ _ _ width-range refl (number_text-runs write_card calls p (pos 3) _)) (gives-runs _ _))
+    (then _ _ _ _ _ _ (gives-runs _ _) (gives-runs _ _)))
+    (gives-runs _ _)))
+    (in_out-runs write_card p _ _ _ 98 refl
+    (then _ _ _ _ _ _ (number_of_card-runs (pos 7) _ refl)
+    (then _ _ _ _ _ _ (number_of_card-runs (pos 3) _ refl) refl)))))
