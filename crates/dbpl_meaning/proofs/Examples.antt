@@ -1,12 +1,16 @@
 -- Small programs, what each comes to and how much work it is, computed from the rows. All places are one here but where a
 -- trap stands.
-use Rattle.std.proofs.Common.{◌≡◌, ◌+◌, ℕ, suc, ℤ, List, [], ◌∷◌, Option, Some, None, pos, refl, ap, ◌∙◌, false}
+use Rattle.std.proofs.Common.{◌≡◌, ◌+◌, ℕ, suc, ℤ, List, [], ◌∷◌, Option, Some, None, pos, true, refl, ap, ◌∙◌, false}
 use Rattle.std.specs.Prelude.{codes}
 use Rattle.std.specs.Fmt.{digits}
 use Rattle.dbpl_base.specs.declared.place.Place.{Place}
 use Rattle.dbpl_core.specs.Events.{Out}
 use Rattle.dbpl_core.specs.Stores as stores
 use Rattle.dbpl_core.specs.Stores.{Store, first_store}
+use Rattle.dbpl_core.specs.declared.arithmetic_operator.ArithmeticOperator.TheVariants as operators
+use Rattle.dbpl_core.specs.declared.cell.Cell.TheVariants as cell
+use Rattle.dbpl_core.specs.declared.designator_of.CoreDesignatorOf.{CoreDesignatorOf}
+use Rattle.dbpl_core.specs.declared.root.Root.TheVariants as roots
 use Rattle.dbpl_core.specs.declared.argument_of.CoreArgumentOf.TheVariants as arguments
 use Rattle.dbpl_core.specs.declared.expr.CoreExpr.{CoreExpr, CoreExpr-F, roll-CoreExpr}
 use Rattle.dbpl_core.specs.declared.expr.CoreExpr.TheOpen as exprs
@@ -17,19 +21,23 @@ use Rattle.dbpl_core.specs.declared.stmt.CoreStmtOf.{CoreStmtOf, CoreStmtOf-F, r
 use Rattle.dbpl_core.specs.declared.stmt.CoreStmtOf.TheOpen as stmts
 use Rattle.dbpl_core.specs.declared.unit.CoreUnit.{CoreUnit}
 use Rattle.dbpl_meaning.proofs.Levels.{does-roll, value_of-roll}
-use Rattle.dbpl_meaning.proofs.Running.{after, fits-runs, gives-runs, number-runs, number_of_card-runs, number_text-runs, row-runs, stopped, then, value-runs}
+use Rattle.dbpl_meaning.proofs.Running.{after, fits-runs, gives-runs, number-runs, number_of_card-runs, number_text-runs, of_card-runs, row-runs, spend-runs, stopped, then, there-runs, value-runs}
 use Rattle.dbpl_meaning.proofs.Steady.{turn-one}
 use Rattle.dbpl_meaning.proofs.Trees.{one-call, one-in_out}
-use Rattle.dbpl_meaning.specs.Declared.{started_globals}
-use Rattle.dbpl_meaning.specs.Expressions.{Calls, value_of}
+use Rattle.dbpl_meaning.specs.Declared.{global_reference, started, started_globals}
+use Rattle.dbpl_meaning.specs.InOut.{characters_of}
+use Rattle.dbpl_meaning.specs.Expressions.{Calls, characters, led_to, value_of}
 use Rattle.dbpl_meaning.specs.Meaning.{Ended, Outcome, begun, calls_at, limit, meaning, outcome_of, runs, without_value}
 use Rattle.dbpl_meaning.specs.State.{Doing, Done, State, Stops}
-use Rattle.dbpl_meaning.specs.Statements.{does, row}
+use Rattle.dbpl_meaning.specs.Statements.{does, of, row}
 use Rattle.dbpl_meaning.specs.Words.{◌>>=◌, ◌>>◌, assigns, block, closes_frame, gives, in_frame, input_left, loops, looks, nothing, opens_frame, replaces, spend, stops, takes_byte, turn, up_to_exit, up_to_return, value_at, variable_at, writes}
+use Rattle.dbpl_value.proofs.TypeParts.{by_parts-out}
 use Rattle.dbpl_value.specs.Types.{is_in, range_of}
+use Rattle.dbpl_value.specs.Values.{start_level, start_value_of}
 use Rattle.dbpl_value.specs.declared.range.Range.{Range}
 use Rattle.dbpl_value.specs.declared.db_type.DbType.{DbType}
 use Rattle.dbpl_value.specs.declared.db_type.DbType.TheVariants as kinds
+use Rattle.dbpl_value.specs.declared.value.Value.{Value}
 use Rattle.dbpl_value.specs.declared.value.Value.TheVariants as value
 use Rattle.dbpl_value.specs.declared.variable.Variable.{Variable}
 
@@ -142,3 +150,112 @@ write_card-comes =
     (in_out-runs write_card p _ _ _ 98 refl
     (then _ _ _ _ _ _ (number_of_card-runs (pos 7) _ refl)
     (then _ _ _ _ _ _ (number_of_card-runs (pos 3) _ refl) refl)))))
+
+-- ---- WriteString('ab')
+
+abbrev ab : List ℕ
+ab = 97 ∷ 98 ∷ []
+
+abbrev write_string : Program
+write_string =
+    program_of [] []
+    (roll-CoreStmtOf CoreExpr (stmts.InOut p procedures.WriteString
+    (arguments.Value (roll-CoreExpr (exprs.Text p None (codes "ab"))) ∷ [])) ∷ [])
+
+characters-ab : characters_of (value.Arr (characters ab)) ≡ Some ab
+characters-ab = rw (value.outs-Arr (characters ab), value.outs-Num (pos 97), value.outs-Num (pos 98)) refl
+
+pub write_string-comes : meaning write_string [] [] 100 ≡ record { events = Out 97 ∷ Out 98 ∷ []; stands = Ended; input = []; work = 20 }
+unfolding writes stores.says stores.opens
+write_string-comes =
+    let calls : Calls = calls_at write_string 9999 in
+    of-body _ _ _ _ _ ∙
+    ended-comes write_string _ [] 99 (state_with 98 20 (stores.says ab (empty_store write_string)))
+    (one-runs write_string calls _ _ _
+    (then _ _ _ _ _ _
+    (then _ _ _ _ _ _
+    (then _ _ _ _ _ _ (value-runs write_string calls (exprs.Text p None (codes "ab")) _ _ (then _ _ _ _ _ _ (spend-runs 1 _) (gives-runs _ _))) (gives-runs _ _))
+    (then _ _ _ _ _ _ (gives-runs _ _) (gives-runs _ _)))
+    (in_out-runs write_string p _ _ _ 98 refl (then _ _ _ _ _ _ (there-runs _ _ _ characters-ab) refl))))
+
+-- ---- one variable c of type CARDINAL
+
+abbrev c_declared : List Variable
+c_declared = record { name = codes "c"; kind = kinds.Card } ∷ []
+
+abbrev c_named : CoreDesignatorOf CoreExpr
+c_named = record { place = p; root = roots.Global (codes "M") (codes "c"); root_kind = kinds.Card; steps = [] }
+
+abbrev c_read : CoreExpr
+c_read = roll-CoreExpr (exprs.Read c_named kinds.Card)
+
+abbrev literal : ℕ → CoreExpr
+literal n = roll-CoreExpr (exprs.Number p (pos n))
+
+abbrev store_of : ℕ → Store
+store_of n = record {
+  globals = cell.Holds kinds.Card (value.Num (pos n)) ∷ started kinds.Bool ∷ [];
+  frames = [] ∷ [] ∷ [];
+  database = [];
+  input = [];
+  events = [];
+}
+
+start-card : start_value_of kinds.Card ≡ value.Num (pos 0)
+start-card = by_parts-out Value start_level kinds.Card ∙ rw kinds.outs-Card refl
+
+c_begins : (body : List Stmt) (turns : ℕ) → opened (program_of c_declared [] body) [] turns ≡ state_with turns 1 (store_of 0)
+unfolding stores.opens
+c_begins body turns = rw start-card refl
+
+module _ (body : List Stmt) where
+  abbrev program : Program
+  program = program_of c_declared [] body
+
+  abbrev calls : Calls
+  calls = calls_at program 9999
+
+  c-led : (state : State) → led_to program (of program calls) c_named state ≡ Done (global_reference 0) (after 1 state)
+  unfolding ◌>>=◌ spend gives
+  c-led state = refl
+
+  c-reads : (left work n : ℕ) → value_of program calls c_read (state_with left work (store_of n)) ≡ Done (value.Num (pos n)) (state_with left (work + 1) (store_of n))
+  unfolding value_at looks stores.reads
+  c-reads left work n = value-runs program calls (exprs.Read c_named kinds.Card) _ _ (then _ _ _ _ _ _ (c-led _) refl)
+
+  c-gets :
+      (left work n m : ℕ) → is_in cards (pos m) ≡ true →
+      assigns (global_reference 0) (value.Num (pos m)) (state_with left work (store_of n)) ≡ Done (tt {0}) (state_with left work (store_of m))
+  unfolding assigns looks replaces stores.puts
+  c-gets left work n m lies = then _ _ _ _ _ _ refl (then _ _ _ _ _ _ (of_card-runs (pos m) _ lies) refl)
+
+-- ---- c := 1 + 2
+
+abbrev sum : CoreExpr
+sum = roll-CoreExpr (exprs.Arithmetic p p operators.Plus None (literal 1) (literal 2))
+
+abbrev sum_assigned : List Stmt
+sum_assigned = roll-CoreStmtOf CoreExpr (stmts.Assign p c_named (roll-CoreExpr (exprs.Fitted p kinds.Card sum))) ∷ []
+
+sum-runs : (left work : ℕ) (store : Store) → value_of (program sum_assigned) (calls sum_assigned) sum (state_with left work store) ≡ Done (value.Num (pos 3)) (state_with left (work + 1 + 1 + 1) store)
+sum-runs left work store =
+    value-runs _ _ (exprs.Arithmetic p p operators.Plus None (literal 1) (literal 2)) _ _
+    (then _ _ _ _ _ _ (spend-runs 1 _)
+    (then _ _ _ _ _ _ (number_text-runs _ _ p (pos 1) _)
+    (then _ _ _ _ _ _ (number-runs (pos 1) _)
+    (then _ _ _ _ _ _ (number_text-runs _ _ p (pos 2) _)
+    (then _ _ _ _ _ _ (number-runs (pos 2) _)
+    (then _ _ _ _ _ _ (gives-runs _ _)
+    (then _ _ _ _ _ _ (gives-runs _ _) (gives-runs _ _))))))))
+
+-- c is 3 afterwards
+pub sum-does : block (does (program sum_assigned) (calls sum_assigned)) sum_assigned (opened (program sum_assigned) [] 99) ≡ Done (tt {0}) (state_with 99 6 (store_of 3))
+sum-does =
+    rw (c_begins sum_assigned 99)
+    (one-runs _ _ _ _ _
+    (then _ _ _ _ _ _ (c-led sum_assigned _)
+    (then _ _ _ _ _ _ (fits-runs _ _ p kinds.Card cards sum (pos 3) _ _ card-range refl (sum-runs 99 3 (store_of 0)))
+    (c-gets sum_assigned 99 6 0 3 refl))))
+
+pub sum-comes : meaning (program sum_assigned) [] [] 100 ≡ record { events = []; stands = Ended; input = []; work = 6 }
+sum-comes = of-body _ _ _ _ _ ∙ ended-comes (program sum_assigned) _ [] 99 _ sum-does

@@ -1,5 +1,5 @@
 -- How phrases run from a state, one behind the other: what an example is computed by.
-use Rattle.std.proofs.Common.{◌≡◌, ◌+◌, ℕ, suc, ℤ, pos, Bool, true, List, [], ◌∷◌, Option, Some, None, ap, refl, sym, ◌∙◌}
+use Rattle.std.proofs.Common.{◌≡◌, ◌+◌, ℕ, suc, ℤ, pos, Bool, false, true, List, [], ◌∷◌, Option, Some, None, ap, refl, sym, ◌∙◌}
 use Rattle.dbpl_base.specs.declared.place.Place.{Place}
 use Rattle.dbpl_core.specs.declared.expr.CoreExpr.{CoreExpr, CoreExpr-F, roll-CoreExpr}
 use Rattle.dbpl_core.specs.declared.expr.CoreExpr.TheOpen as exprs
@@ -7,11 +7,12 @@ use Rattle.dbpl_core.specs.declared.program.Program.{Program}
 use Rattle.dbpl_core.specs.declared.stmt.CoreStmtOf.{CoreStmtOf, CoreStmtOf-F, roll-CoreStmtOf}
 use Rattle.dbpl_core.specs.declared.stmt.CoreStmtOf.TheOpen as stmts
 use Rattle.dbpl_meaning.proofs.Levels.{does-roll, value_of-roll}
+use Rattle.dbpl_meaning.proofs.Steady.{turn-none, turn-one}
 use Rattle.dbpl_meaning.specs.Expressions.{Calls, meaning_of, value_level, value_of}
 use Rattle.dbpl_meaning.specs.Numbers.{fitted}
-use Rattle.dbpl_meaning.specs.State.{Doing, Done, Ran, State, Stop, Stops}
+use Rattle.dbpl_meaning.specs.State.{Doing, Done, Going, Ran, State, Stop, Stops}
 use Rattle.dbpl_meaning.specs.Statements.{does, row}
-use Rattle.dbpl_meaning.specs.Words.{◌>>=◌, ◌>>◌, block, gives, go_on, nothing, number, number_of_type, of_type, spend, there}
+use Rattle.dbpl_meaning.specs.Words.{◌>>=◌, ◌>>◌, block, gives, go_on, loops, nothing, number, number_of_type, of_type, spend, there, turn, turns}
 use Rattle.dbpl_value.proofs.ValuesLemmas.{is_of-out}
 use Rattle.dbpl_value.specs.Types.{is_in, range_of}
 use Rattle.dbpl_value.specs.Values.{is_of}
@@ -41,6 +42,15 @@ stopped phrase next state between stop one = rw one refl
 pub gives-runs : {A : Type 0} (a : A) (state : State) → gives a state ≡ Done a state
 unfolding gives
 gives-runs a state = refl
+
+pub spend-runs : (n : ℕ) (state : State) → spend n state ≡ Done (tt {0}) (after n state)
+unfolding spend
+spend-runs n state = refl
+
+-- what is there
+pub there-runs : {A : Type 0} (found : Option A) (a : A) (state : State) → found ≡ Some a → there found state ≡ Done a state
+unfolding gives
+there-runs found a state is = rw is refl
 
 pub number-runs : (n : ℤ) (state : State) → number (value.Num n) state ≡ Done n state
 unfolding gives
@@ -100,3 +110,38 @@ module _ (program : Program) (calls : Calls) where
       row program calls (does program calls) x (after 1 state) ≡ ran → does program calls (roll-CoreStmtOf CoreExpr x) state ≡ ran
   unfolding ◌>>=◌ spend
   row-runs x state ran is = ap (λ (doing : Doing (Unit {0})). doing state) (does-roll program calls x) ∙ is
+
+-- ---- loops
+
+pub turn-runs :
+    {A : Type 0} (doing : Doing A) (state : State) (left : ℕ) (ran : Ran A) → state.left ≡ suc left →
+    doing (record state { left = left; work = state.work + 1 }) ≡ ran → turn doing state ≡ ran
+turn-runs doing state left ran some is = turn-one doing state left some ∙ is
+
+-- a turn, and what follows
+pub turn-again :
+    {A : Type 0} (most : ℕ) (goes : A → Doing Bool) (round : A → Doing A) (a b : A) (state between later : State)
+    (ran : Ran (Unit {0})) → goes a state ≡ Done true between → turn (round a) between ≡ Done b later →
+    turns most goes round b later ≡ ran → turns (suc most) goes round a state ≡ ran
+unfolding ◌>>=◌
+turn-again most goes round a b state between later ran test body rest = rw (test, body) rest
+
+-- no turn more
+pub turn-ends :
+    {A : Type 0} (most : ℕ) (goes : A → Doing Bool) (round : A → Doing A) (a : A) (state between : State) →
+    goes a state ≡ Done false between → turns (suc most) goes round a state ≡ Done (tt {0}) between
+unfolding ◌>>=◌ gives
+turn-ends most goes round a state between test = rw test refl
+
+-- no turn is left
+pub turn-cut :
+    {A : Type 0} (most : ℕ) (goes : A → Doing Bool) (round : A → Doing A) (a : A) (state between : State) →
+    goes a state ≡ Done true between → between.left ≡ 0 → turns (suc most) goes round a state ≡ Stops Going between
+unfolding ◌>>=◌
+turn-cut most goes round a state between test none = rw (test, turn-none (round a) between none) refl
+
+pub loops-runs :
+    {A : Type 0} (goes : A → Doing Bool) (round : A → Doing A) (a : A) (state : State) (ran : Ran (Unit {0})) →
+    turns (suc state.left) goes round a state ≡ ran → loops goes round a state ≡ ran
+unfolding loops
+loops-runs goes round a state ran is = is
