@@ -1,14 +1,18 @@
 -- Small programs, what each comes to and how much work it is, computed from the rows. All places are one here but where a
 -- trap stands.
-use Rattle.std.proofs.Common.{◌≡◌, ◌+◌, ℕ, suc, ℤ, List, [], ◌∷◌, Option, Some, None, pos, true, refl, ap, ◌∙◌, false}
+use Rattle.std.proofs.Common.{◌≡◌, ◌+◌, ℕ, suc, ℤ, List, [], ◌∷◌, Option, Some, None, pos, Bool, true, refl, ap, ◌∙◌, false}
 use Rattle.std.specs.Prelude.{codes}
 use Rattle.std.specs.Fmt.{digits}
+use Rattle.std.specs.Ordering.{int_cmp}
 use Rattle.dbpl_base.specs.declared.place.Place.{Place}
 use Rattle.dbpl_core.specs.Events.{Out}
 use Rattle.dbpl_core.specs.Stores as stores
 use Rattle.dbpl_core.specs.Stores.{Store, first_store}
 use Rattle.dbpl_core.specs.declared.arithmetic_operator.ArithmeticOperator.TheVariants as operators
 use Rattle.dbpl_core.specs.declared.cell.Cell.TheVariants as cell
+use Rattle.dbpl_core.specs.declared.comparison.Comparison.TheVariants as comparisons
+use Rattle.dbpl_core.specs.declared.direction.Direction.TheVariants as directions
+use Rattle.dbpl_core.specs.declared.relation.Relation.TheVariants as relations
 use Rattle.dbpl_core.specs.declared.designator_of.CoreDesignatorOf.{CoreDesignatorOf}
 use Rattle.dbpl_core.specs.declared.root.Root.TheVariants as roots
 use Rattle.dbpl_core.specs.declared.argument_of.CoreArgumentOf.TheVariants as arguments
@@ -21,15 +25,17 @@ use Rattle.dbpl_core.specs.declared.stmt.CoreStmtOf.{CoreStmtOf, CoreStmtOf-F, r
 use Rattle.dbpl_core.specs.declared.stmt.CoreStmtOf.TheOpen as stmts
 use Rattle.dbpl_core.specs.declared.unit.CoreUnit.{CoreUnit}
 use Rattle.dbpl_meaning.proofs.Levels.{does-roll, value_of-roll}
-use Rattle.dbpl_meaning.proofs.Running.{after, fits-runs, gives-runs, number-runs, number_of_card-runs, number_text-runs, of_card-runs, row-runs, spend-runs, stopped, then, there-runs, value-runs}
+use Rattle.dbpl_meaning.proofs.Running.{after, compared-runs, exact-runs, fits-runs, fitted-runs, loops-runs, truth-runs, turn-again, turn-cut, turn-ends, turn-runs, gives-runs, number-runs, number_of_card-runs, number_text-runs, of_card-runs, row-runs, spend-runs, stopped, then, there-runs, value-runs}
 use Rattle.dbpl_meaning.proofs.Steady.{turn-one}
 use Rattle.dbpl_meaning.proofs.Trees.{one-call, one-in_out}
 use Rattle.dbpl_meaning.specs.Declared.{global_reference, started, started_globals}
 use Rattle.dbpl_meaning.specs.InOut.{characters_of}
 use Rattle.dbpl_meaning.specs.Expressions.{Calls, characters, led_to, value_of}
-use Rattle.dbpl_meaning.specs.Meaning.{Ended, Outcome, begun, calls_at, limit, meaning, outcome_of, runs, without_value}
+use Rattle.dbpl_meaning.specs.Meaning.{Ended, Going, Outcome, begun, calls_at, limit, meaning, outcome_of, runs, without_value}
 use Rattle.dbpl_meaning.specs.State.{Doing, Done, State, Stops}
-use Rattle.dbpl_meaning.specs.Statements.{does, of, row}
+use Rattle.dbpl_meaning.specs.Statements.{condition, does, of, row}
+use Rattle.dbpl_meaning.specs.Numbers.{is_related, wide}
+use Rattle.dbpl_meaning.specs.State as phrase
 use Rattle.dbpl_meaning.specs.Words.{◌>>=◌, ◌>>◌, assigns, block, closes_frame, gives, in_frame, input_left, loops, looks, nothing, opens_frame, replaces, spend, stops, takes_byte, turn, up_to_exit, up_to_return, value_at, variable_at, writes}
 use Rattle.dbpl_value.proofs.TypeParts.{by_parts-out}
 use Rattle.dbpl_value.specs.Types.{is_in, range_of}
@@ -259,3 +265,107 @@ sum-does =
 
 pub sum-comes : meaning (program sum_assigned) [] [] 100 ≡ record { events = []; stands = Ended; input = []; work = 6 }
 sum-comes = of-body _ _ _ _ _ ∙ ended-comes (program sum_assigned) _ [] 99 _ sum-does
+
+-- ---- WHILE c < 3 DO INC(c) END
+
+abbrev less : CoreExpr
+less = roll-CoreExpr (exprs.Compared p p relations.Less comparisons.Numbers c_read (literal 3))
+
+abbrev inc : Stmt
+inc = roll-CoreStmtOf CoreExpr (stmts.Count p directions.Up c_named kinds.Card None)
+
+abbrev counted_up : List Stmt
+counted_up = roll-CoreStmtOf CoreExpr (stmts.While p less (inc ∷ [])) ∷ []
+
+abbrev is_less : ℕ → Bool
+is_less n = is_related relations.Less (int_cmp (pos n) (pos 3))
+
+module _ (body : List Stmt) where
+  less-runs :
+      (left work n : ℕ) →
+      condition (program body) (calls body) less (state_with left work (store_of n))
+      ≡ Done (is_less n) (state_with left (work + 1 + 1 + 1) (store_of n))
+  less-runs left work n =
+      then _ _ _ _ _ _
+      (value-runs (program body) (calls body) (exprs.Compared p p relations.Less comparisons.Numbers c_read (literal 3)) _ _
+      (then _ _ _ _ _ _ (spend-runs 1 _)
+      (then _ _ _ _ _ _ (c-reads body left (work + 1) n)
+      (then _ _ _ _ _ _ (number_text-runs _ _ p (pos 3) _)
+      (then _ _ _ _ _ _ (compared-runs relations.Less (pos n) (pos 3) _) (gives-runs _ _))))))
+      (truth-runs (is_less n) _)
+
+  inc-runs :
+      (left work n : ℕ) → is_in wide (pos (n + 1)) ≡ true → is_in cards (pos (n + 1)) ≡ true →
+      block (does (program body) (calls body)) (inc ∷ []) (state_with left work (store_of n))
+      ≡ Done (tt {0}) (state_with left (work + 1 + 1) (store_of (n + 1)))
+  unfolding value_at looks stores.reads
+  inc-runs left work n wide_lies lies =
+      one-runs _ _ _ _ _
+      (then _ _ _ _ _ _ (c-led body _)
+      (then _ _ _ _ _ _ (gives-runs (pos 1) _)
+      (then _ _ _ _ (value.Num (pos n)) _ refl
+      (then _ _ _ _ _ _ (number-runs (pos n) _)
+      (then _ _ _ _ _ _ (exact-runs (pos (n + 1)) _ wide_lies)
+      (then _ _ _ _ _ _ (fitted-runs kinds.Card cards p (pos (n + 1)) _ card-range lies)
+      (c-gets body left (work + 1 + 1) n (n + 1) lies)))))))
+
+-- c is 3 afterwards
+pub counted_up-does :
+    block (does (program counted_up) (calls counted_up)) counted_up (opened (program counted_up) [] 99)
+    ≡ Done (tt {0}) (state_with 96 23 (store_of 3))
+counted_up-does =
+    rw (c_begins counted_up 99)
+    (one-runs _ _ _ _ _
+    (loops-runs _ _ _ _ _
+    (turn-again _ _ _ _ _ _ _ _ _ (less-runs counted_up 99 2 0) (turn-runs _ _ 98 _ refl (inc-runs counted_up 98 6 0 refl refl))
+    (turn-again _ _ _ _ _ _ _ _ _ (less-runs counted_up 98 8 1) (turn-runs _ _ 97 _ refl (inc-runs counted_up 97 12 1 refl refl))
+    (turn-again _ _ _ _ _ _ _ _ _ (less-runs counted_up 97 14 2) (turn-runs _ _ 96 _ refl (inc-runs counted_up 96 18 2 refl refl))
+    (turn-ends _ _ _ _ _ _ (less-runs counted_up 96 20 3)))))))
+
+pub counted_up-comes : meaning (program counted_up) [] [] 100 ≡ record { events = []; stands = Ended; input = []; work = 23 }
+counted_up-comes = of-body _ _ _ _ _ ∙ ended-comes (program counted_up) _ [] 99 _ counted_up-does
+
+-- ---- WHILE TRUE DO END within 5 turns
+
+-- a body that is cut off
+cut-comes :
+    (program : Program) (doing : Doing (Unit {0})) (input : List ℕ) (turns : ℕ) (state : State) →
+    doing (opened program input turns) ≡ Stops phrase.Going state →
+    comes_to program doing input (suc turns)
+    ≡ record { events = state.store.events; stands = Going; input = state.store.input; work = state.work }
+unfolding comes_to ◌>>=◌ turn up_to_return opens_frame
+cut-comes program doing input turns state is = rw is refl
+
+abbrev empty : Stmt
+empty = roll-CoreStmtOf CoreExpr (stmts.Empty p)
+
+abbrev endless : List Stmt
+endless = roll-CoreStmtOf CoreExpr (stmts.While p (literal 1) (empty ∷ [])) ∷ []
+
+true-runs :
+    (left work : ℕ) (store : Store) →
+    condition (program_of [] [] endless) (calls_at (program_of [] [] endless) 9999) (literal 1) (state_with left work store)
+    ≡ Done true (state_with left (work + 1) store)
+true-runs left work store = then _ _ _ _ _ _ (number_text-runs _ _ p (pos 1) _) (truth-runs true _)
+
+empty-runs :
+    (program : Program) (calls : Calls) (left work : ℕ) (store : Store) →
+    block (does program calls) (empty ∷ []) (state_with left work store) ≡ Done (tt {0}) (state_with left (work + 1) store)
+empty-runs program calls left work store = one-runs program calls (stmts.Empty p) _ _ (gives-runs _ _)
+
+pub endless-comes : meaning (program_of [] [] endless) [] [] 5 ≡ record { events = []; stands = Going; input = []; work = 15 }
+unfolding stores.opens
+endless-comes =
+    let all : Program = program_of [] [] endless in
+    let calls : Calls = calls_at all 9999 in
+    let store : Store = empty_store all in
+    of-body _ _ _ _ _ ∙
+    cut-comes all _ [] 4 (state_with 0 15 store)
+    (stopped _ _ _ _ _
+    (row-runs all calls (stmts.While p (literal 1) (empty ∷ [])) _ _
+    (loops-runs _ _ _ _ _
+    (turn-again _ _ _ _ _ _ _ _ _ (true-runs 4 2 store) (turn-runs _ _ 3 _ refl (empty-runs all calls 3 4 store))
+    (turn-again _ _ _ _ _ _ _ _ _ (true-runs 3 5 store) (turn-runs _ _ 2 _ refl (empty-runs all calls 2 7 store))
+    (turn-again _ _ _ _ _ _ _ _ _ (true-runs 2 8 store) (turn-runs _ _ 1 _ refl (empty-runs all calls 1 10 store))
+    (turn-again _ _ _ _ _ _ _ _ _ (true-runs 1 11 store) (turn-runs _ _ 0 _ refl (empty-runs all calls 0 13 store))
+    (turn-cut _ _ _ _ _ _ (true-runs 0 14 store) refl))))))))

@@ -1,6 +1,9 @@
 -- How phrases run from a state, one behind the other: what an example is computed by.
 use Rattle.std.proofs.Common.{◌≡◌, ◌+◌, ℕ, suc, ℤ, pos, Bool, false, true, List, [], ◌∷◌, Option, Some, None, ap, refl, sym, ◌∙◌}
+use Rattle.std.specs.Ordering.{int_cmp}
 use Rattle.dbpl_base.specs.declared.place.Place.{Place}
+use Rattle.dbpl_core.specs.declared.comparison.Comparison.TheVariants as comparisons
+use Rattle.dbpl_core.specs.declared.relation.Relation.{Relation}
 use Rattle.dbpl_core.specs.declared.expr.CoreExpr.{CoreExpr, CoreExpr-F, roll-CoreExpr}
 use Rattle.dbpl_core.specs.declared.expr.CoreExpr.TheOpen as exprs
 use Rattle.dbpl_core.specs.declared.program.Program.{Program}
@@ -9,10 +12,10 @@ use Rattle.dbpl_core.specs.declared.stmt.CoreStmtOf.TheOpen as stmts
 use Rattle.dbpl_meaning.proofs.Levels.{does-roll, value_of-roll}
 use Rattle.dbpl_meaning.proofs.Steady.{turn-none, turn-one}
 use Rattle.dbpl_meaning.specs.Expressions.{Calls, meaning_of, value_level, value_of}
-use Rattle.dbpl_meaning.specs.Numbers.{fitted}
+use Rattle.dbpl_meaning.specs.Numbers.{compared, exact, fitted, is_related, number_of_bool, wide}
 use Rattle.dbpl_meaning.specs.State.{Doing, Done, Going, Ran, State, Stop, Stops}
 use Rattle.dbpl_meaning.specs.Statements.{does, row}
-use Rattle.dbpl_meaning.specs.Words.{◌>>=◌, ◌>>◌, block, gives, go_on, loops, nothing, number, number_of_type, of_type, spend, there, turn, turns}
+use Rattle.dbpl_meaning.specs.Words.{◌>>=◌, ◌>>◌, block, gives, go_on, loops, nothing, number, number_of_type, of_type, spend, there, truth, turn, turns}
 use Rattle.dbpl_value.proofs.ValuesLemmas.{is_of-out}
 use Rattle.dbpl_value.specs.Types.{is_in, range_of}
 use Rattle.dbpl_value.specs.Values.{is_of}
@@ -55,6 +58,22 @@ there-runs found a state is = rw is refl
 pub number-runs : (n : ℤ) (state : State) → number (value.Num n) state ≡ Done n state
 unfolding gives
 number-runs n state = rw (value.outs-Num n) refl
+
+-- ---- numbers and truth values
+
+pub exact-runs : (n : ℤ) (state : State) → is_in wide n ≡ true → exact n state ≡ Done n state
+unfolding gives
+exact-runs n state lies = rw lies refl
+
+pub compared-runs :
+    (relation : Relation) (n m : ℤ) (state : State) →
+    compared comparisons.Numbers relation (value.Num n) (value.Num m) state ≡ Done (is_related relation (int_cmp n m)) state
+compared-runs relation n m state =
+    then _ _ _ _ _ _ (number-runs n state) (then _ _ _ _ _ _ (number-runs m state) (gives-runs _ state))
+
+pub truth-runs : (test : Bool) (state : State) → truth (number_of_bool test) state ≡ Done test state
+truth-runs true state = then _ _ _ _ _ _ (number-runs (pos 1) state) (gives-runs true state)
+truth-runs false state = then _ _ _ _ _ _ (number-runs (pos 0) state) (gives-runs false state)
 
 -- ---- types of numbers
 
@@ -123,21 +142,21 @@ pub turn-again :
     {A : Type 0} (most : ℕ) (goes : A → Doing Bool) (round : A → Doing A) (a b : A) (state between later : State)
     (ran : Ran (Unit {0})) → goes a state ≡ Done true between → turn (round a) between ≡ Done b later →
     turns most goes round b later ≡ ran → turns (suc most) goes round a state ≡ ran
-unfolding ◌>>=◌
+unfolding ◌>>=◌ turns
 turn-again most goes round a b state between later ran test body rest = rw (test, body) rest
 
 -- no turn more
 pub turn-ends :
     {A : Type 0} (most : ℕ) (goes : A → Doing Bool) (round : A → Doing A) (a : A) (state between : State) →
     goes a state ≡ Done false between → turns (suc most) goes round a state ≡ Done (tt {0}) between
-unfolding ◌>>=◌ gives
+unfolding ◌>>=◌ gives turns
 turn-ends most goes round a state between test = rw test refl
 
 -- no turn is left
 pub turn-cut :
     {A : Type 0} (most : ℕ) (goes : A → Doing Bool) (round : A → Doing A) (a : A) (state between : State) →
     goes a state ≡ Done true between → between.left ≡ 0 → turns (suc most) goes round a state ≡ Stops Going between
-unfolding ◌>>=◌
+unfolding ◌>>=◌ turns
 turn-cut most goes round a state between test none = rw (test, turn-none (round a) between none) refl
 
 pub loops-runs :

@@ -210,6 +210,7 @@ steady_if false one other first second = second
 module _ {A : Type 0} (goes_on : A → Doing Bool) (round : A → Doing A)
     (test : (a : A) → IsSteady (goes_on a)) (body : (a : A) → IsSteady (round a)) where
   turns-keeps : (most : ℕ) (a : A) → Keeps (turns most goes_on round a)
+  unfolding turns
   turns-keeps zero a = (steady_stops {A = Unit {0}} Going).keeps
   turns-keeps (suc most) a =
       keeps_bind (goes_on a) _ (test a).keeps (λ again.
@@ -239,7 +240,7 @@ module _ {A : Type 0} (goes_on : A → Doing Bool) (round : A → Doing A)
       (most further_most : ℕ) (a : A) (others further : ℕ) (state : State) → state.left < most → further < further_most →
       further ≡ state.left + others →
       Follows others (turns most goes_on round a state) (turns further_most goes_on round a (record state { left = further }))
-  unfolding ◌>>=◌
+  unfolding ◌>>=◌ turns
   turns-on zero further_most a others further state less further_less e = absurd (omega (arith, less))
   turns-on (suc most) zero a others further state less further_less e = absurd (omega (arith, further_less))
   turns-on (suc most) (suc further_most) a others further state less further_less e =

@@ -62,7 +62,7 @@ unfoldable pub turn : {A : Type 0} → Doing A → Doing A
 turn doing = λ state. turn_with state.left doing state
 
 -- Turn after turn while the test says so, and fewer than `most` of them; what one turn gives is handed on to the next.
-abbrev pub turns : {A : Type 0} → ℕ → (A → Doing Bool) → (A → Doing A) → A → Doing (Unit {0})
+unfoldable pub turns : {A : Type 0} → ℕ → (A → Doing Bool) → (A → Doing A) → A → Doing (Unit {0})
 turns zero goes_on round a = stops Going
 turns (suc most) goes_on round a = do
   again ← goes_on a
