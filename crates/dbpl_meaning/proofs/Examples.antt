@@ -1,6 +1,6 @@
 -- Small programs, what each comes to and how much work it is, computed from the rows. All places are one here but where a
 -- trap stands.
-use Rattle.std.proofs.Common.{◌≡◌, ◌+◌, ℕ, suc, ℤ, List, [], ◌∷◌, Option, Some, None, pos, Bool, true, refl, ap, ◌∙◌, false}
+use Rattle.std.proofs.Common.{◌≡◌, ◌+◌, ℕ, suc, ℤ, ◌+ℤ◌, List, [], ◌∷◌, Option, Some, None, pos, Bool, true, refl, ap, ◌∙◌, false}
 use Rattle.std.specs.Prelude.{codes}
 use Rattle.std.specs.Fmt.{digits}
 use Rattle.std.specs.Ordering.{int_cmp}
@@ -9,14 +9,21 @@ use Rattle.dbpl_core.specs.Events.{Out}
 use Rattle.dbpl_core.specs.Stores as stores
 use Rattle.dbpl_core.specs.Stores.{Store, first_store}
 use Rattle.dbpl_core.specs.declared.arithmetic_operator.ArithmeticOperator.TheVariants as operators
+use Rattle.dbpl_core.specs.declared.branch_of.CoreBranchOf.{CoreBranchOf}
+use Rattle.dbpl_core.specs.declared.call_of.CoreCallOf.{CoreCallOf}
+use Rattle.dbpl_core.specs.declared.cell.Cell.{Cell}
 use Rattle.dbpl_core.specs.declared.cell.Cell.TheVariants as cell
+use Rattle.dbpl_core.specs.declared.whole_host.WholeHost.TheVariants as hosts
+use Rattle.dbpl_value.specs.declared.head.Head.{Head}
+use Rattle.dbpl_core.specs.declared.control_of.CoreControlOf.{CoreControlOf}
+use Rattle.dbpl_core.specs.declared.trap.Trap.{Trap}
 use Rattle.dbpl_core.specs.declared.comparison.Comparison.TheVariants as comparisons
 use Rattle.dbpl_core.specs.declared.direction.Direction.TheVariants as directions
 use Rattle.dbpl_core.specs.declared.relation.Relation.TheVariants as relations
 use Rattle.dbpl_core.specs.declared.designator_of.CoreDesignatorOf.{CoreDesignatorOf}
 use Rattle.dbpl_core.specs.declared.root.Root.TheVariants as roots
 use Rattle.dbpl_core.specs.declared.argument_of.CoreArgumentOf.TheVariants as arguments
-use Rattle.dbpl_core.specs.declared.expr.CoreExpr.{CoreExpr, CoreExpr-F, roll-CoreExpr}
+use Rattle.dbpl_core.specs.declared.expr.CoreExpr.{CoreExpr, CoreExpr-F, out-roll-CoreExpr, roll-CoreExpr}
 use Rattle.dbpl_core.specs.declared.expr.CoreExpr.TheOpen as exprs
 use Rattle.dbpl_core.specs.declared.in_out_procedure.InOutProcedure.TheVariants as procedures
 use Rattle.dbpl_core.specs.declared.program.Program.{Program}
@@ -30,13 +37,13 @@ use Rattle.dbpl_meaning.proofs.Steady.{turn-one}
 use Rattle.dbpl_meaning.proofs.Trees.{one-call, one-in_out}
 use Rattle.dbpl_meaning.specs.Declared.{global_reference, started, started_globals}
 use Rattle.dbpl_meaning.specs.InOut.{characters_of}
-use Rattle.dbpl_meaning.specs.Expressions.{Calls, characters, led_to, value_of}
-use Rattle.dbpl_meaning.specs.Meaning.{Ended, Going, Outcome, begun, calls_at, limit, meaning, outcome_of, runs, without_value}
+use Rattle.dbpl_meaning.specs.Expressions.{Calls, argument, characters, led_to, value_of}
+use Rattle.dbpl_meaning.specs.Meaning.{Ended, Going, Outcome, Trapped, begun, calls_at, limit, meaning, named_does, outcome_of, runs, without_value}
 use Rattle.dbpl_meaning.specs.State.{Doing, Done, State, Stops}
-use Rattle.dbpl_meaning.specs.Statements.{condition, does, of, row}
-use Rattle.dbpl_meaning.specs.Numbers.{is_related, wide}
+use Rattle.dbpl_meaning.specs.Statements.{carried_host, condition, does, number_in_host, of, round_with, row}
+use Rattle.dbpl_meaning.specs.Numbers.{in_host, is_related, wide}
 use Rattle.dbpl_meaning.specs.State as phrase
-use Rattle.dbpl_meaning.specs.Words.{◌>>=◌, ◌>>◌, assigns, block, closes_frame, gives, in_frame, input_left, loops, looks, nothing, opens_frame, replaces, spend, stops, takes_byte, turn, up_to_exit, up_to_return, value_at, variable_at, writes}
+use Rattle.dbpl_meaning.specs.Words.{◌>>=◌, ◌>>◌, AtEnd, assigns, block, closes_frame, each_with, gives, in_frame, input_left, loops, looks, nothing, number_of_type, opens_frame, replaces, spend, stops, takes_byte, turn, up_to_exit, up_to_return, value_at, variable_at, writes}
 use Rattle.dbpl_value.proofs.TypeParts.{by_parts-out}
 use Rattle.dbpl_value.specs.Types.{is_in, range_of}
 use Rattle.dbpl_value.specs.Values.{start_level, start_value_of}
@@ -369,3 +376,239 @@ endless-comes =
     (turn-again _ _ _ _ _ _ _ _ _ (true-runs 2 8 store) (turn-runs _ _ 1 _ refl (empty-runs all calls 1 10 store))
     (turn-again _ _ _ _ _ _ _ _ _ (true-runs 1 11 store) (turn-runs _ _ 0 _ refl (empty-runs all calls 0 13 store))
     (turn-cut _ _ _ _ _ _ (true-runs 0 14 store) refl))))))))
+
+-- ---- CASE 3 OF 1: | 2: END
+
+-- a body that traps
+trap-comes :
+    (program : Program) (doing : Doing (Unit {0})) (input : List ℕ) (turns : ℕ) (trap : Trap) (state : State) →
+    doing (opened program input turns) ≡ Stops (phrase.Trapped trap) state →
+    comes_to program doing input (suc turns)
+    ≡ record { events = state.store.events; stands = Trapped trap; input = state.store.input; work = state.work }
+unfolding comes_to ◌>>=◌ turn up_to_return opens_frame
+trap-comes program doing input turns trap state is = rw is refl
+
+abbrev word_case : Place
+word_case = record { unit = 0; line = 1; col = 17 }
+
+abbrev label : ℕ → CoreBranchOf Stmt
+label n = record { labels = record { least = pos n; greatest = pos n } ∷ []; statements = empty ∷ [] }
+
+abbrev unlabelled : List Stmt
+unlabelled =
+    roll-CoreStmtOf CoreExpr (stmts.Case word_case (literal 3) kinds.Card (label 1 ∷ label 2 ∷ []) None) ∷ []
+
+pub unlabelled-comes :
+    meaning (program_of [] [] unlabelled) [] [] 100
+    ≡ record { events = []; stands = Trapped (record { kind = 5; place = word_case }); input = []; work = 5 }
+unfolding ◌>>=◌ gives spend stops stores.opens
+unlabelled-comes =
+    let all : Program = program_of [] [] unlabelled in
+    let calls : Calls = calls_at all 9999 in
+    let store : Store = empty_store all in
+    of-body _ _ _ _ _ ∙
+    trap-comes all _ [] 99 _ (state_with 99 5 store)
+    (stopped (does all calls (roll-CoreStmtOf CoreExpr (stmts.Case word_case (literal 3) kinds.Card (label 1 ∷ label 2 ∷ []) None)))
+    (λ _. nothing) _ _ _
+    (row-runs all calls (stmts.Case word_case (literal 3) kinds.Card (label 1 ∷ label 2 ∷ []) None) _ _
+    (then (number_in_host all calls kinds.Card (literal 3)) _ (state_with 99 2 store) (state_with 99 3 store) (pos 3) _
+    (then (value_of all calls (literal 3)) (number_of_type kinds.Card) _ _ _ _ (number_text-runs all calls p (pos 3) _)
+    (number_of_card-runs (pos 3) _ refl))
+    refl)))
+
+-- ---- FOR c := 1 TO 3 DO END
+
+abbrev control : CoreControlOf CoreExpr
+control = record { variable = c_named; kind = kinds.Card; host = kinds.Card }
+
+abbrev counting : List Stmt
+counting = roll-CoreStmtOf CoreExpr (stmts.For p control (literal 1) (literal 3) None (empty ∷ [])) ∷ []
+
+literal-host : (n : ℕ) → carried_host kinds.Card (literal n) ≡ kinds.Card
+literal-host n = rw (out-roll-CoreExpr (exprs.Number p (pos n))) refl
+
+bound-runs :
+    (n left work : ℕ) (store : Store) → is_in cards (pos n) ≡ true →
+    number_in_host (program counting) (calls counting) (carried_host kinds.Card (literal n)) (literal n) (state_with left work store)
+    ≡ Done (pos n) (state_with left (work + 1) store)
+bound-runs n left work store lies =
+    rw (literal-host n)
+    (then _ _ _ _ _ _ (number_text-runs (program counting) (calls counting) p (pos n) _) (number_of_card-runs (pos n) _ lies))
+
+-- a turn of the FOR, with the number m where c was n
+counting-runs :
+    (n m left work : ℕ) → is_in cards (pos m) ≡ true →
+    round_with (program counting) (calls counting) (does (program counting) (calls counting)) control (pos 1) (empty ∷ []) (pos m)
+    (state_with left work (store_of n))
+    ≡ Done (pos m +ℤ pos 1) (state_with left (work + 1 + 1) (store_of m))
+counting-runs n m left work lies =
+    then _ _ _ _ _ _
+    (then _ _ _ _ _ _ (c-led counting _)
+    (then _ _ _ _ _ _ (fitted-runs kinds.Card cards p (pos m) _ card-range lies) (c-gets counting left (work + 1) n m lies)))
+    (then _ _ _ _ _ _ (empty-runs _ _ left (work + 1) (store_of m)) (gives-runs _ _))
+
+-- c is 3 afterwards
+pub counting-does :
+    block (does (program counting) (calls counting)) counting (opened (program counting) [] 99) ≡ Done (tt {0}) (state_with 96 13 (store_of 3))
+counting-does =
+    rw (c_begins counting 99)
+    (one-runs _ _ _ _ _
+    (then _ _ _ _ _ _ (bound-runs 1 99 2 (store_of 0) refl)
+    (then _ _ _ _ _ _ (bound-runs 3 99 3 (store_of 0) refl)
+    (then _ _ _ _ _ _ (spend-runs 0 _)
+    (loops-runs _ _ _ _ _
+    (turn-again _ _ _ _ _ _ _ _ _ (gives-runs true _) (turn-runs _ _ 98 _ refl (counting-runs 0 1 98 5 refl))
+    (turn-again _ _ _ _ _ _ _ _ _ (gives-runs true _) (turn-runs _ _ 97 _ refl (counting-runs 1 2 97 8 refl))
+    (turn-again _ _ _ _ _ _ _ _ _ (gives-runs true _) (turn-runs _ _ 96 _ refl (counting-runs 2 3 96 11 refl))
+    (turn-ends _ _ _ _ _ _ (gives-runs false _))))))))))
+
+pub counting-comes : meaning (program counting) [] [] 100 ≡ record { events = []; stands = Ended; input = []; work = 13 }
+counting-comes = of-body _ _ _ _ _ ∙ ended-comes (program counting) _ [] 99 _ counting-does
+
+-- ---- p(c, c), with PROCEDURE p(VAR x, y: CARDINAL); BEGIN x := 1; y := y + x END p;
+
+abbrev p_head : Head
+p_head = record {
+  name = codes "p";
+  transaction = false;
+  params = record { name = codes "x"; kind = kinds.Card; by_ref = true } ∷ record { name = codes "y"; kind = kinds.Card; by_ref = true } ∷ [];
+  result = None;
+}
+
+abbrev slot : ℕ → CoreDesignatorOf CoreExpr
+slot n = record { place = p; root = roots.Frame n; root_kind = kinds.Card; steps = [] }
+
+abbrev slot_read : ℕ → CoreExpr
+slot_read n = roll-CoreExpr (exprs.Read (slot n) kinds.Card)
+
+abbrev slots_added : CoreExpr-F CoreExpr
+slots_added = exprs.Arithmetic p p operators.Plus (Some hosts.Cardinal) (slot_read 1) (slot_read 0)
+
+abbrev x_set : CoreStmtOf-F CoreExpr Stmt
+x_set = stmts.Assign p (slot 0) (roll-CoreExpr (exprs.Fitted p kinds.Card (literal 1)))
+
+abbrev y_set : CoreStmtOf-F CoreExpr Stmt
+y_set = stmts.Assign p (slot 1) (roll-CoreExpr (exprs.Fitted p kinds.Card (roll-CoreExpr slots_added)))
+
+abbrev p_body : List Stmt
+p_body = roll-CoreStmtOf CoreExpr x_set ∷ roll-CoreStmtOf CoreExpr y_set ∷ []
+
+abbrev p_routine : Routine
+p_routine = record { head = p_head; locals = []; body = p_body; finish = p }
+
+abbrev p_call : CoreCallOf CoreExpr
+p_call = record {
+  place = p;
+  owner = codes "M";
+  head = p_head;
+  arguments = arguments.Variable c_named ∷ arguments.Variable c_named ∷ [];
+}
+
+abbrev p_called : List Stmt
+p_called = roll-CoreStmtOf CoreExpr (stmts.Call p_call) ∷ []
+
+abbrev twice : Program
+twice = program_of c_declared (p_routine ∷ []) p_called
+
+abbrev p_calls : Calls
+p_calls = calls_at twice 9998
+
+abbrev p_cells : List Cell
+p_cells = cell.Refers (global_reference 0) ∷ cell.Refers (global_reference 0) ∷ []
+
+-- while p is open
+abbrev frame_of : ℕ → Store
+frame_of n = record (store_of n) { frames = [] ∷ [] ∷ p_cells ∷ [] }
+
+slot-led-0 :
+    (left work n : ℕ) → led_to twice (of twice p_calls) (slot 0) (state_with left work (frame_of n))
+    ≡ Done (global_reference 0) (state_with left (work + 1) (frame_of n))
+unfolding ◌>>=◌ spend gives variable_at looks stores.refers
+slot-led-0 left work n = refl
+
+slot-led-1 :
+    (left work n : ℕ) → led_to twice (of twice p_calls) (slot 1) (state_with left work (frame_of n))
+    ≡ Done (global_reference 0) (state_with left (work + 1) (frame_of n))
+unfolding ◌>>=◌ spend gives variable_at looks stores.refers
+slot-led-1 left work n = refl
+
+frame-value : (left work n : ℕ) → value_at (global_reference 0) (state_with left work (frame_of n)) ≡ Done (value.Num (pos n)) (state_with left work (frame_of n))
+unfolding value_at looks stores.reads
+frame-value left work n = refl
+
+frame-gets :
+    (left work n m : ℕ) → is_in cards (pos m) ≡ true →
+    assigns (global_reference 0) (value.Num (pos m)) (state_with left work (frame_of n)) ≡ Done (tt {0}) (state_with left work (frame_of m))
+unfolding assigns looks replaces stores.puts
+frame-gets left work n m lies = then _ _ _ _ _ _ refl (then _ _ _ _ _ _ (of_card-runs (pos m) _ lies) refl)
+
+x_set-runs : does twice p_calls (roll-CoreStmtOf CoreExpr x_set) (state_with 98 5 (frame_of 0)) ≡ Done (tt {0}) (state_with 98 8 (frame_of 1))
+x_set-runs =
+    row-runs twice p_calls x_set _ _
+    (then _ _ _ _ _ _ (slot-led-0 98 6 0)
+    (then _ _ _ _ _ _ (fits-runs twice p_calls p kinds.Card cards (literal 1) (pos 1) _ _ card-range refl (number_text-runs twice p_calls p (pos 1) _))
+    (frame-gets 98 8 0 1 refl)))
+
+in_cards-runs : (n : ℤ) (state : State) → is_in cards n ≡ true → in_host (Some hosts.Cardinal) p n state ≡ Done n state
+unfolding ◌>>=◌ gives
+in_cards-runs n state lies = rw (card-range, lies) refl
+
+added-runs : value_of twice p_calls (roll-CoreExpr slots_added) (state_with 98 10 (frame_of 1)) ≡ Done (value.Num (pos 2)) (state_with 98 13 (frame_of 1))
+added-runs =
+    value-runs twice p_calls slots_added _ _
+    (then _ _ _ _ _ _ (spend-runs 1 _)
+    (then _ _ _ _ _ _ (value-runs twice p_calls (exprs.Read (slot 1) kinds.Card) _ _ (then _ _ _ _ _ _ (slot-led-1 98 11 1) (frame-value 98 12 1)))
+    (then _ _ _ _ _ _ (number-runs (pos 1) _)
+    (then _ _ _ _ _ _ (value-runs twice p_calls (exprs.Read (slot 0) kinds.Card) _ _ (then _ _ _ _ _ _ (slot-led-0 98 12 1) (frame-value 98 13 1)))
+    (then _ _ _ _ _ _ (number-runs (pos 1) _)
+    (then _ _ _ _ _ _ (gives-runs (pos 2) _)
+    (then _ _ _ _ _ _ (in_cards-runs (pos 2) _ refl) (gives-runs _ _))))))))
+
+y_set-runs : does twice p_calls (roll-CoreStmtOf CoreExpr y_set) (state_with 98 8 (frame_of 1)) ≡ Done (tt {0}) (state_with 98 13 (frame_of 2))
+y_set-runs =
+    row-runs twice p_calls y_set _ _
+    (then _ _ _ _ _ _ (slot-led-1 98 9 1)
+    (then _ _ _ _ _ _ (fits-runs twice p_calls p kinds.Card cards (roll-CoreExpr slots_added) (pos 2) _ _ card-range refl added-runs)
+    (frame-gets 98 13 1 2 refl)))
+
+returned-runs :
+    (doing : Doing (Unit {0})) (state between : State) → doing state ≡ Done (tt {0}) between → up_to_return doing state ≡ Done AtEnd between
+unfolding up_to_return
+returned-runs doing state between is = rw is refl
+
+p-does : named_does twice p_calls (codes "M") (codes "p") p_cells (state_with 98 5 (store_of 0)) ≡ Done None (state_with 98 13 (store_of 2))
+unfolding opens_frame closes_frame stores.opens stores.closes
+p-does =
+    then _ _ _ _ _ _ (there-runs _ p_routine _ refl)
+    (then (opens_frame p_cells) _ _ (state_with 98 5 (frame_of 0)) _ _ refl
+    (then _ _ _ _ _ _
+    (then _ _ _ _ _ _
+    (returned-runs (block (does twice p_calls) p_body) _ _
+    (then _ _ _ _ _ _ x_set-runs (then _ _ _ _ _ _ y_set-runs (gives-runs _ _))))
+    (gives-runs None _))
+    (then closes_frame _ _ (state_with 98 13 (store_of 2)) _ _ refl (gives-runs _ _))))
+
+twice-cells :
+    (state : State) →
+    each_with (argument twice (of twice (calls_at twice 9999))) p_call.arguments p_call.head.params state
+    ≡ Done p_cells (after 1 (after 1 state))
+unfolding ◌>>=◌ spend gives
+twice-cells state = refl
+
+twice_begins : (turns : ℕ) → opened twice [] turns ≡ state_with turns 1 (store_of 0)
+unfolding stores.opens
+twice_begins turns = rw start-card refl
+
+-- c is 2 afterwards
+pub twice-does : block (does twice (calls_at twice 9999)) p_called (opened twice [] 99) ≡ Done (tt {0}) (state_with 98 13 (store_of 2))
+twice-does =
+    rw (twice_begins 99)
+    (one-runs _ _ _ _ _
+    (then _ _ _ _ _ _
+    (then _ _ _ _ _ _ (twice-cells _)
+    (ap (λ (phrase : Doing (Option Value)). phrase (state_with 99 4 (store_of 0))) (one-call twice 9998 p (codes "M") (codes "p") p_cells)
+    ∙ turn-runs _ (state_with 99 4 (store_of 0)) 98 _ refl p-does))
+    (gives-runs _ _)))
+
+pub twice-comes : meaning twice [] [] 100 ≡ record { events = []; stands = Ended; input = []; work = 13 }
+twice-comes = of-body _ _ _ _ _ ∙ ended-comes twice _ [] 99 _ twice-does
