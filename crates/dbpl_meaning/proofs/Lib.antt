@@ -1,6 +1,8 @@
 pub mod Examples
 pub mod Goes
+pub mod Leaving
 pub mod Levels
+pub mod Loops
 pub mod Rows
 pub mod Running
 pub mod Steady

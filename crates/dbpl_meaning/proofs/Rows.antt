@@ -239,7 +239,7 @@ steady_labelled n (label ∷ labels) =
 
 module _ (program : Program) (calls : Calls) (steady : AreSteady calls)
     (inner : (e : CoreExpr) → IsSteady (meaning_of program calls e).value) where
-  steady_condition : (e : CoreExpr) → IsSteady (condition program calls e)
+  pub steady_condition : (e : CoreExpr) → IsSteady (condition program calls e)
   steady_condition e = steady_bind _ _ (inner e) (λ v. steady_truth v)
 
   steady_number_in_host : (host : DbType) (e : CoreExpr) → IsSteady (number_in_host program calls host e)
@@ -283,15 +283,15 @@ module _ (program : Program) (calls : Calls) (steady : AreSteady calls)
         steady_bind _ _ (steady_labelled n branch.labels) (λ has.
         steady_if has _ _ (steady_block does each branch.statements) (steady_first_labelled n branches otherwise other))
 
-    steady_round : (body : List S) (before : Unit {0}) → IsSteady (round does body before)
+    pub steady_round : (body : List S) (before : Unit {0}) → IsSteady (round does body before)
     steady_round body before = steady_block does each body
 
-    steady_round_until : (body : List S) (e : CoreExpr) (before : Bool) → IsSteady (round_until program calls does body e before)
+    pub steady_round_until : (body : List S) (e : CoreExpr) (before : Bool) → IsSteady (round_until program calls does body e before)
     steady_round_until body e before =
         steady_bind _ _ (steady_block does each body) (λ _.
         steady_bind _ _ (steady_condition e) (λ ends. steady_gives _))
 
-    steady_round_with :
+    pub steady_round_with :
         (control : CoreControlOf CoreExpr) (by : ℤ) (body : List S) (n : ℤ) → IsSteady (round_with program calls does control by body n)
     steady_round_with control by body n =
         steady_bind _ _ (steady_control control n) (λ _.

@@ -186,7 +186,7 @@ unfolding turn
 turn-one doing state left one = ap (λ (left : ℕ). turn_with left doing state) one
 
 -- where a turn is done, one turn less is left
-turn-less :
+pub turn-less :
     {A : Type 0} (doing : Doing A) → Keeps doing → (left : ℕ) (state : State) (a : A) (later : State) →
     turn_with left doing state ≡ Done a later → later.left < left
 turn-less doing keeps zero state a later is = cc

@@ -2,7 +2,7 @@
 -- loop. Calls recurse on the number of those that may still be open, loops on the turns that are left, so nothing else
 -- bounds a run. Database and module variables are apart: programs with persistent variables will begin over the database to
 -- which they are bound.
-use Rattle.std.specs.Prelude.{ℕ, zero, suc, ◌-◌, List, [], ◌∷◌, ◌++◌, slice_get, Option, Some, None}
+use Rattle.std.specs.Prelude.{ℕ, zero, suc, ◌-◌, Bool, false, true, List, [], ◌∷◌, ◌++◌, slice_get, Option, Some, None}
 use Rattle.dbpl_base.specs.declared.place.Place.{Place}
 use Rattle.dbpl_core.specs.Events.{Event}
 use Rattle.dbpl_core.specs.Stores.{first_store}
@@ -92,6 +92,12 @@ begun program database input turns = record {
 
 unfoldable pub runs : Program → List Bound → List ℕ → ℕ → Ran (Unit {0})
 runs program database input turns = bodies program program.order (begun program database input turns)
+
+-- whether it stops by EXIT or RETURN, which lead to a place outside
+abbrev pub leaves : {A : Type 0} → Ran A → Bool
+leaves (Stops phrase.Exiting state) = true
+leaves (Stops (phrase.Returning v) state) = true
+leaves ran = false
 
 -- How a run stands.
 pub data Standing : Type 0 where

@@ -1,7 +1,7 @@
 -- The words of which the meaning of each phrase is made. Each is shut: what is proved of the meaning is proved of the words,
 -- and then of what is made of them. An effect on the store is one word, over the effect that `dbpl_core` defines, which
 -- the machine has too.
-use Rattle.std.specs.Prelude.{ℕ, zero, suc, ◌+◌, ◌*◌, ℤ, pos, Bool, true, false, not, if◌then◌else◌, List, [], ◌∷◌, length, Option, Some, None, option_map, Result, Ok, Err}
+use Rattle.std.specs.Prelude.{◌≡◌, ℕ, zero, suc, ◌+◌, ◌*◌, ℤ, pos, Bool, true, false, not, if◌then◌else◌, List, [], ◌∷◌, length, Option, Some, None, option_map, Result, Ok, Err}
 use Rattle.dbpl_base.specs.declared.place.Place.{Place}
 use Rattle.dbpl_core.specs.Stores as stores
 use Rattle.dbpl_core.specs.Stores.{Store, held_at}
@@ -71,6 +71,11 @@ turns (suc most) goes_on round a = do
 -- the turns of a loop, which are no more than those that are left
 unfoldable pub loops : {A : Type 0} → (A → Doing Bool) → (A → Doing A) → A → Doing (Unit {0})
 loops goes_on round a = λ state. turns (suc state.left) goes_on round a state
+
+-- A loop is its test, and where that says so a turn and the loop again.
+abbrev pub Unrolls : {A : Type 0} → (A → Doing Bool) → (A → Doing A) → A → Type 0
+Unrolls goes_on round a =
+    loops goes_on round a ≡ (goes_on a >>= (λ again. if again then turn (round a) >>= loops goes_on round else nothing))
 
 -- ---- where EXIT and RETURN lead
 

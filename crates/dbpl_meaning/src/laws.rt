@@ -1,17 +1,18 @@
 // Laws of the meaning, each the contract of a function that does nothing.
-ghost use Rattle.std.specs.Prelude.{◌≡◌, ◌≤◌, ◌+◌, ◌++◌, ℕ, suc, List};
+ghost use Rattle.std.specs.Prelude.{◌≡◌, ◌≤◌, ◌+◌, ◌++◌, ℕ, suc, ℤ, Bool, false, true, List};
 ghost use Rattle.dbpl_base.specs.declared.place.Place.{Place as AnyPlace};
 ghost use Rattle.dbpl_core.specs.Events.{Event};
 ghost use Rattle.dbpl_core.specs.declared.cell.Cell.{Cell as AnyCell};
+ghost use Rattle.dbpl_core.specs.declared.control_of.CoreControlOf.{CoreControlOf};
 ghost use Rattle.dbpl_core.specs.declared.expr.CoreExpr.{CoreExpr as Expr, CoreExpr-F, out-CoreExpr, roll-CoreExpr};
 ghost use Rattle.dbpl_core.specs.declared.program.Program.{Program as AnyProgram};
 ghost use Rattle.dbpl_core.specs.declared.stmt.CoreStmtOf.{CoreStmtOf as StmtOf, CoreStmtOf-F, out-CoreStmtOf, roll-CoreStmtOf};
 ghost use Rattle.dbpl_meaning.specs.Expressions.{Calls, meaning_of, value_level, value_of};
-ghost use Rattle.dbpl_meaning.specs.Meaning.{calls_at, limit, meaning, named_does, runs};
+ghost use Rattle.dbpl_meaning.specs.Meaning.{calls_at, leaves, limit, meaning, named_does, runs};
 ghost use Rattle.dbpl_meaning.specs.Meaning as whole;
 ghost use Rattle.dbpl_meaning.specs.State.{Doing, Going, State, Stops, state_in};
-ghost use Rattle.dbpl_meaning.specs.Statements.{does, does_level};
-ghost use Rattle.dbpl_meaning.specs.Words.{traps, turn};
+ghost use Rattle.dbpl_meaning.specs.Statements.{condition, does, does_level, goes_on_to, round, round_until, round_with};
+ghost use Rattle.dbpl_meaning.specs.Words.{Unrolls, gives, traps, turn};
 ghost use Rattle.dbpl_value.specs.declared.bound.Bound.{Bound};
 
 /// More turns only add events, input that is taken, and work; and a run that has come to an end stays exactly as it is.
@@ -22,11 +23,16 @@ pub fn meaning_is_steady()
     ensures stays { (program : AnyProgram) (database : List Bound) (input : List ℕ) (turns others : ℕ) → ((meaning program database input turns).stands ≡ whole.Going → ⊥) → meaning program database input (turns + others) ≡ meaning program database input turns }
 {}
 
-/// A turn begins only where one is left, and then one less is left and one more work is done. A run has no more turns left
-/// than it was given, and those that it used are no more than its work.
+/// A turn begins only where one is left, and then one less is left and one more work is done. Each loop of a program is its
+/// test, and where that says so a turn and the loop again. A run has no more turns left than it was given, and those that it
+/// used are no more than its work.
 pub fn loops_take_turns()
     ensures none { (doing : Doing (Unit {0})) (state : State) → state.left ≡ 0 → turn doing state ≡ Stops Going state }
     ensures one { (doing : Doing (Unit {0})) (state : State) (left : ℕ) → state.left ≡ suc left → turn doing state ≡ doing (record state { left = left; work = state.work + 1 }) }
+    ensures while_unrolls { (program : AnyProgram) (room : ℕ) (e : Expr) (body : List (StmtOf Expr)) → Unrolls (λ before. condition program (calls_at program room) e) (round (does program (calls_at program room)) body) (tt {0}) }
+    ensures repeat_unrolls { (program : AnyProgram) (room : ℕ) (body : List (StmtOf Expr)) (e : Expr) (again : Bool) → Unrolls gives (round_until program (calls_at program room) (does program (calls_at program room)) body e) again }
+    ensures loop_unrolls { (program : AnyProgram) (room : ℕ) (body : List (StmtOf Expr)) → Unrolls (λ before. gives true) (round (does program (calls_at program room)) body) (tt {0}) }
+    ensures for_unrolls { (program : AnyProgram) (room : ℕ) (control : CoreControlOf Expr) (last by : ℤ) (body : List (StmtOf Expr)) (n : ℤ) → Unrolls (λ n. gives (goes_on_to last by n)) (round_with program (calls_at program room) (does program (calls_at program room)) control by body) n }
     ensures left { (program : AnyProgram) (database : List Bound) (input : List ℕ) (turns : ℕ) → (state_in (runs program database input turns)).left ≤ turns }
     ensures paid { (program : AnyProgram) (database : List Bound) (input : List ℕ) (turns : ℕ) → turns ≤ (state_in (runs program database input turns)).left + (state_in (runs program database input turns)).work }
 {}
@@ -38,6 +44,12 @@ pub fn calls_are_limited()
     ensures none_of_in_out { (program : AnyProgram) (place : AnyPlace) (doing : Doing (Unit {0})) → (calls_at program 0).in_out place doing ≡ traps 7 place }
     ensures one { (program : AnyProgram) (room : ℕ) (place : AnyPlace) (owner name : List ℕ) (cells : List AnyCell) → (calls_at program (suc room)).routine place owner name cells ≡ turn (named_does program (calls_at program room) owner name cells) }
     ensures one_of_in_out { (program : AnyProgram) (room : ℕ) (place : AnyPlace) (doing : Doing (Unit {0})) → (calls_at program (suc room)).in_out place doing ≡ turn doing }
+{}
+
+/// Neither EXIT nor RETURN leads out of a routine, or out of a module's body.
+pub fn leaving_ends_at_routines()
+    ensures calls { (program : AnyProgram) (room : ℕ) (place : AnyPlace) (owner name : List ℕ) (cells : List AnyCell) (state : State) → leaves ((calls_at program room).routine place owner name cells state) ≡ false }
+    ensures whole { (program : AnyProgram) (database : List Bound) (input : List ℕ) (turns : ℕ) → leaves (runs program database input turns) ≡ false }
 {}
 
 /// What an expression or a statement means is its row, whether it is taken apart or made.

@@ -1,4 +1,5 @@
 -- By cases on the turns left, and by the law of each phrase.
+use Rattle.dbpl_meaning.proofs.Loops.{for-unrolls, loop-unrolls, repeat-unrolls, while-unrolls}
 use Rattle.dbpl_meaning.proofs.Steady.{turn-none, turn-one}
 use Rattle.dbpl_meaning.proofs.Whole.{runs-fewer, runs-paid}
 use Rattle.dbpl_meaning.proofs.laws.loops_take_turns.Goals as goal
@@ -8,6 +9,18 @@ returns-clause-none c = λ doing state none. turn-none doing state none
 
 pub returns-clause-one : goal.returns-clause-one
 returns-clause-one c = λ doing state left one. turn-one doing state left one
+
+pub returns-clause-while_unrolls : goal.returns-clause-while_unrolls
+returns-clause-while_unrolls c = while-unrolls
+
+pub returns-clause-repeat_unrolls : goal.returns-clause-repeat_unrolls
+returns-clause-repeat_unrolls c = repeat-unrolls
+
+pub returns-clause-loop_unrolls : goal.returns-clause-loop_unrolls
+returns-clause-loop_unrolls c = loop-unrolls
+
+pub returns-clause-for_unrolls : goal.returns-clause-for_unrolls
+returns-clause-for_unrolls c = for-unrolls
 
 pub returns-clause-left : goal.returns-clause-left
 returns-clause-left c = runs-fewer
