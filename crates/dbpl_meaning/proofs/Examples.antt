@@ -31,7 +31,6 @@ use Rattle.dbpl_core.specs.declared.routine.Routine.{Routine}
 use Rattle.dbpl_core.specs.declared.stmt.CoreStmtOf.{CoreStmtOf, CoreStmtOf-F, roll-CoreStmtOf}
 use Rattle.dbpl_core.specs.declared.stmt.CoreStmtOf.TheOpen as stmts
 use Rattle.dbpl_core.specs.declared.unit.CoreUnit.{CoreUnit}
-use Rattle.dbpl_meaning.proofs.Levels.{does-roll, value_of-roll}
 use Rattle.dbpl_meaning.proofs.Running.{after, compared-runs, exact-runs, fits-runs, fitted-runs, loops-runs, truth-runs, turn-again, turn-cut, turn-ends, turn-runs, gives-runs, number-runs, number_of_card-runs, number_text-runs, of_card-runs, row-runs, spend-runs, stopped, then, there-runs, value-runs}
 use Rattle.dbpl_meaning.proofs.Steady.{turn-one}
 use Rattle.dbpl_meaning.proofs.Trees.{one-call, one-in_out}
@@ -43,7 +42,7 @@ use Rattle.dbpl_meaning.specs.State.{Doing, Done, State, Stops}
 use Rattle.dbpl_meaning.specs.Statements.{carried_host, condition, does, number_in_host, of, round_with, row}
 use Rattle.dbpl_meaning.specs.Numbers.{in_host, is_related, wide}
 use Rattle.dbpl_meaning.specs.State as phrase
-use Rattle.dbpl_meaning.specs.Words.{◌>>=◌, ◌>>◌, AtEnd, assigns, block, closes_frame, each_with, gives, in_frame, input_left, loops, looks, nothing, number_of_type, opens_frame, replaces, spend, stops, takes_byte, turn, up_to_exit, up_to_return, value_at, variable_at, writes}
+use Rattle.dbpl_meaning.specs.Words.{◌>>=◌, AtEnd, assigns, block, closes_frame, each_with, gives, in_frame, looks, nothing, number_of_type, opens_frame, replaces, spend, stops, turn, up_to_return, value_at, variable_at, writes}
 use Rattle.dbpl_value.proofs.TypeParts.{by_parts-out}
 use Rattle.dbpl_value.specs.Types.{is_in, range_of}
 use Rattle.dbpl_value.specs.Values.{start_level, start_value_of}

@@ -3,16 +3,14 @@ use Rattle.std.proofs.Common.{◌≡◌, ◌+◌, ℕ, zero, suc, Bool, true, fa
 use Rattle.dbpl_base.specs.declared.place.Place.{Place}
 use Rattle.dbpl_core.specs.declared.cell.Cell.{Cell}
 use Rattle.dbpl_core.specs.declared.program.Program.{Program}
-use Rattle.dbpl_core.specs.declared.routine.Routine.{Routine}
 use Rattle.dbpl_core.specs.declared.unit.CoreUnit.{CoreUnit}
 use Rattle.dbpl_meaning.specs.Expressions.{Calls}
-use Rattle.dbpl_meaning.specs.Meaning.{bodies, body_does, calls_at, leaves, named_does, result_of, routine_does, runs, without_value}
+use Rattle.dbpl_meaning.specs.Meaning.{bodies, body_does, calls_at, leaves, named_does, result_of, runs, without_value}
 use Rattle.dbpl_meaning.specs.State.{Doing, Done, Ended, Exiting, Going, Ran, Returning, State, Stop, Stops, Trapped, Wrong}
-use Rattle.dbpl_meaning.specs.Words.{◌>>=◌, ◌>>◌, AtEnd, ByReturn, Leaving, after_return, closes_frame, gives, go_on, in_frame, nothing, of_type, opens_frame, stops, there, turn, turn_with, up_to_return}
+use Rattle.dbpl_meaning.specs.Words.{◌>>=◌, AtEnd, ByReturn, Leaving, after_return, closes_frame, gives, go_on, in_frame, opens_frame, stops, there, turn, turn_with, up_to_return}
 use Rattle.dbpl_value.specs.Values.{is_of}
 use Rattle.dbpl_value.specs.declared.bound.Bound.{Bound}
 use Rattle.dbpl_value.specs.declared.db_type.DbType.{DbType}
-use Rattle.dbpl_value.specs.declared.value.Value.{Value}
 
 -- it stops by neither
 pub record Stays {A : Type 0} (phrase : Doing A) : Type 0 where

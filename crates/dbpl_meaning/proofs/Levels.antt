@@ -1,12 +1,11 @@
 -- One level of an expression or a statement: what it means is its row, with the meanings of the expressions and statements in
 -- it.
-use Rattle.std.proofs.Common.{◌≡◌, ℕ, ℤ, ◌+ℤ◌, Bool, true, not, List, [], ◌∷◌, ◌++◌, Option, Some, None, ap, if◌then◌else◌, map, refl, sym, ◌∙◌}
+use Rattle.std.proofs.Common.{◌≡◌, ℕ, ℤ, ◌+ℤ◌, true, not, List, [], ◌∷◌, ◌++◌, Option, Some, None, ap, if◌then◌else◌, map, refl, sym, ◌∙◌}
 use Rattle.dbpl_base.specs.declared.place.Place.{Place}
 use Rattle.dbpl_core.specs.declared.argument_of.CoreArgumentOf.{CoreArgumentOf}
 use Rattle.dbpl_core.specs.declared.argument_of.CoreArgumentOf.TheVariants as arguments
 use Rattle.dbpl_core.specs.declared.arm_of.CoreArmOf.{CoreArmOf}
 use Rattle.dbpl_core.specs.declared.branch_of.CoreBranchOf.{CoreBranchOf}
-use Rattle.dbpl_core.specs.declared.control_of.CoreControlOf.{CoreControlOf}
 use Rattle.dbpl_core.specs.declared.expr.CoreExpr.{CoreExpr, CoreExpr-F, fold-roll-CoreExpr, map-CoreExpr, out-CoreExpr, roll-CoreExpr, roll-out-CoreExpr}
 use Rattle.dbpl_core.specs.declared.expr.CoreExpr.TheOpen as exprs
 use Rattle.dbpl_core.specs.declared.expr.CoreExpr.TheShapes as shapes
@@ -25,7 +24,7 @@ use Rattle.dbpl_meaning.specs.State.{Doing}
 use Rattle.dbpl_meaning.specs.Statements as statements
 use Rattle.dbpl_meaning.specs.Statements.{carried_host, condition, control_gets, does, does_level, first_labelled, first_true, goes_on_to, is_labelled, number_in_host, one_without, or_else, phrases_of_by, round, round_until, round_with, row}
 use Rattle.dbpl_meaning.specs.Words.{◌>>=◌, ◌>>◌, block, each, each_with, gives, loops, nothing, value_at, spend, there, traps, up_to_exit}
-use Rattle.dbpl_value.specs.declared.db_type.DbType.{DbType, out-DbType}
+use Rattle.dbpl_value.specs.declared.db_type.DbType.{out-DbType}
 use Rattle.dbpl_value.specs.declared.param.Param.{Param}
 use Rattle.dbpl_value.specs.declared.range.Range.{Range}
 use Rattle.dbpl_value.specs.declared.step.Step.{Step}

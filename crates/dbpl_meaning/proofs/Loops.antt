@@ -1,6 +1,6 @@
 -- A loop is its test, and where that says so a turn and the loop again: that turns are counted is seen in nothing else. It
 -- needs that test and turn have no more turns left afterwards, as all phrases of a program do.
-use Rattle.std.proofs.Common.{◌≡◌, ◌<◌, ◌≤◌, ℕ, zero, suc, ℤ, Bool, true, false, List, ap, arith, if◌then◌else◌, refl, sym, ◌∙◌}
+use Rattle.std.proofs.Common.{◌≡◌, ◌<◌, ◌≤◌, ℕ, zero, suc, ℤ, Bool, true, false, List, ap, arith, if◌then◌else◌, refl, sym}
 use Rattle.dbpl_core.specs.declared.control_of.CoreControlOf.{CoreControlOf}
 use Rattle.dbpl_core.specs.declared.expr.CoreExpr.{CoreExpr}
 use Rattle.dbpl_core.specs.declared.program.Program.{Program}
@@ -13,7 +13,7 @@ use Rattle.dbpl_meaning.specs.Expressions.{Calls, value_of}
 use Rattle.dbpl_meaning.specs.Meaning.{calls_at}
 use Rattle.dbpl_meaning.specs.State.{Doing, Done, Ran, State, Stops, state_in}
 use Rattle.dbpl_meaning.specs.Statements.{condition, does, goes_on_to, round, round_until, round_with}
-use Rattle.dbpl_meaning.specs.Words.{◌>>=◌, ◌>>◌, Unrolls, gives, go_on, loops, nothing, turn, turn_with, turns}
+use Rattle.dbpl_meaning.specs.Words.{◌>>=◌, Unrolls, gives, go_on, loops, nothing, turn, turn_with, turns}
 
 -- what comes next is asked only of states in which the phrase is done
 next-same :

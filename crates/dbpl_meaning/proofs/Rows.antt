@@ -1,5 +1,5 @@
 -- Each row of the meaning is steady where what stands in it is.
-use Rattle.std.proofs.Common.{◌≡◌, ℕ, ℤ, pos, negsuc, Bool, true, false, List, [], ◌∷◌, Option, Some, None, nat_abs, option_map, refl}
+use Rattle.std.proofs.Common.{ℕ, ℤ, pos, Bool, true, false, List, [], ◌∷◌, Option, Some, None, nat_abs, option_map}
 use Rattle.std.specs.Int.{int_div_euclid, int_rem_euclid}
 use Rattle.dbpl_base.specs.declared.place.Place.{Place}
 use Rattle.dbpl_core.specs.declared.argument_of.CoreArgumentOf.{CoreArgumentOf}
@@ -41,7 +41,7 @@ use Rattle.dbpl_meaning.specs.Expressions.{Calls, Meaning, argument, called, cel
 use Rattle.dbpl_meaning.specs.InOut.{Given, Referred, Valued, performs, reads_into, reads_number}
 use Rattle.dbpl_meaning.specs.Numbers.{compared, divided, exact, fitted, in_host, reckoned, signed, standard_number, within}
 use Rattle.dbpl_meaning.specs.Reading.{front_of, number_found}
-use Rattle.dbpl_meaning.specs.State.{Doing, Ended, Exiting, Returning, Trapped, Wrong}
+use Rattle.dbpl_meaning.specs.State.{Doing}
 use Rattle.dbpl_meaning.specs.Statements.{amount, condition, control_gets, counted, does_level, first_labelled, first_true, is_labelled, number_in_host, or_else, returned, round, round_until, round_with, row, without_result}
 use Rattle.dbpl_meaning.specs.Words.{traps}
 use Rattle.dbpl_value.specs.declared.db_type.DbType.{DbType, DbType-F, out-DbType}

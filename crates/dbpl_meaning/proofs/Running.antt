@@ -1,5 +1,5 @@
 -- How phrases run from a state, one behind the other: what an example is computed by.
-use Rattle.std.proofs.Common.{◌≡◌, ◌+◌, ℕ, suc, ℤ, pos, Bool, false, true, List, [], ◌∷◌, Option, Some, None, ap, refl, sym, ◌∙◌}
+use Rattle.std.proofs.Common.{◌≡◌, ◌+◌, ℕ, suc, ℤ, pos, Bool, false, true, Option, Some, ap, refl, ◌∙◌}
 use Rattle.std.specs.Ordering.{int_cmp}
 use Rattle.dbpl_base.specs.declared.place.Place.{Place}
 use Rattle.dbpl_core.specs.declared.comparison.Comparison.TheVariants as comparisons
@@ -8,14 +8,13 @@ use Rattle.dbpl_core.specs.declared.expr.CoreExpr.{CoreExpr, CoreExpr-F, roll-Co
 use Rattle.dbpl_core.specs.declared.expr.CoreExpr.TheOpen as exprs
 use Rattle.dbpl_core.specs.declared.program.Program.{Program}
 use Rattle.dbpl_core.specs.declared.stmt.CoreStmtOf.{CoreStmtOf, CoreStmtOf-F, roll-CoreStmtOf}
-use Rattle.dbpl_core.specs.declared.stmt.CoreStmtOf.TheOpen as stmts
 use Rattle.dbpl_meaning.proofs.Levels.{does-roll, value_of-roll}
 use Rattle.dbpl_meaning.proofs.Steady.{turn-none, turn-one}
 use Rattle.dbpl_meaning.specs.Expressions.{Calls, meaning_of, value_level, value_of}
 use Rattle.dbpl_meaning.specs.Numbers.{compared, exact, fitted, is_related, number_of_bool, wide}
 use Rattle.dbpl_meaning.specs.State.{Doing, Done, Going, Ran, State, Stop, Stops}
 use Rattle.dbpl_meaning.specs.Statements.{does, row}
-use Rattle.dbpl_meaning.specs.Words.{◌>>=◌, ◌>>◌, block, gives, go_on, loops, nothing, number, number_of_type, of_type, spend, there, truth, turn, turns}
+use Rattle.dbpl_meaning.specs.Words.{◌>>=◌, gives, loops, number, number_of_type, of_type, spend, there, truth, turn, turns}
 use Rattle.dbpl_value.proofs.ValuesLemmas.{is_of-out}
 use Rattle.dbpl_value.specs.Types.{is_in, range_of}
 use Rattle.dbpl_value.specs.Values.{is_of}

@@ -1,8 +1,8 @@
 -- More turns only add events, input taken and work, and a run that has come to an end stays as it is. It holds of each word,
 -- and of what is made of words that have it: a line each.
-use Rattle.std.proofs.Common.{◌≡◌, ◌+◌, ◌*◌, ◌<◌, ◌≤◌, ℕ, zero, suc, ℤ, pos, negsuc, Bool, true, false, List, [], ◌∷◌, ◌++◌, Option, Some, None, Result, Ok, Err, ap, arith, if◌then◌else◌, length, map, option_map, refl, sym, ◌∙◌}
+use Rattle.std.proofs.Common.{◌≡◌, ◌+◌, ◌<◌, ◌≤◌, ℕ, zero, suc, Bool, true, false, List, [], ◌∷◌, Option, Some, None, Result, Ok, Err, ap, arith, if◌then◌else◌, map, option_map, refl, sym}
 use Rattle.std.proofs.lemmas.List.{append-nil}
-use Rattle.dbpl_core.specs.Events.{Event, Out}
+use Rattle.dbpl_core.specs.Events.{Out}
 use Rattle.dbpl_core.specs.Stores as stores
 use Rattle.dbpl_core.specs.Stores.{Held, Store, held_at, put_in, where_there, with_cell}
 use Rattle.dbpl_core.specs.declared.cell.Cell.{Cell}
@@ -11,7 +11,7 @@ use Rattle.dbpl_core.specs.declared.reference_root.ReferenceRoot.{ReferenceRoot}
 use Rattle.dbpl_core.specs.declared.reference_root.ReferenceRoot.TheVariants as root
 use Rattle.dbpl_meaning.proofs.Goes.{Goes, Keeps, goes-here, goes-on, goes-same}
 use Rattle.dbpl_meaning.specs.State.{Doing, Done, Exiting, Going, Ran, Returning, State, Stop, Stops, Wrong, state_in}
-use Rattle.dbpl_meaning.specs.Words.{◌>>=◌, ◌>>◌, Leaving, after_exit, after_return, answered, block, closes_frame, each, each_with, gives, go_on, in_frame, input_left, kind_at, looked, looks, loops, number, only_number, number_of_type, of_type, opens_frame, writes, assigns, value_at, variable_at, replaces, spend, stored, stops, takes_byte, takes_bytes, there, took, truth, turn, turn_with, turns, up_to_exit, up_to_return}
+use Rattle.dbpl_meaning.specs.Words.{◌>>=◌, after_exit, after_return, answered, block, closes_frame, each, each_with, gives, go_on, in_frame, input_left, kind_at, looked, looks, loops, number, only_number, number_of_type, of_type, opens_frame, writes, assigns, value_at, variable_at, replaces, spend, stored, stops, takes_byte, takes_bytes, there, took, truth, turn, turn_with, turns, up_to_exit, up_to_return}
 use Rattle.dbpl_value.specs.Paths.{part_at}
 use Rattle.dbpl_value.specs.Values.{is_of}
 use Rattle.dbpl_value.specs.declared.db_type.DbType.{DbType}
@@ -69,7 +69,7 @@ keeps_bind phrase next one each = record {
 bind-on :
     {A B : Type 0} (others : ℕ) (ran further : Ran A) (next later : A → Doing B) → ((a : A) → Keeps (later a)) →
     ((a : A) (state : State) (left : ℕ) → ran ≡ Done a state → left ≡ state.left + others →
-      Follows others (next a state) (later a (record state { left = left }))) →
+    Follows others (next a state) (later a (record state { left = left }))) →
     Follows others ran further → Follows others (go_on ran next) (go_on further later)
 bind-on others (Done a state) further next later keeps each follows =
     rw follows.2 (each a state follows.0 refl follows.1)
@@ -221,7 +221,7 @@ module _ {A : Type 0} (goes_on : A → Doing Bool) (round : A → Doing A)
   again-on :
       (most further_most : ℕ) →
       ((a : A) (others further : ℕ) (state : State) → state.left < most → further < further_most → further ≡ state.left + others →
-        Follows others (turns most goes_on round a state) (turns further_most goes_on round a (record state { left = further }))) →
+      Follows others (turns most goes_on round a state) (turns further_most goes_on round a (record state { left = further }))) →
       (a : A) (again : Bool) (others further : ℕ) (state : State) → state.left < suc most → further < suc further_most →
       further ≡ state.left + others →
       Follows others ((if again then turn (round a) >>= turns most goes_on round else gives (tt {0})) state)
@@ -231,8 +231,8 @@ module _ {A : Type 0} (goes_on : A → Doing Bool) (round : A → Doing A)
       bind-on others (turn_with state.left (round a) state) (turn_with further (round a) (record state { left = further }))
       (turns most goes_on round) (turns further_most goes_on round) (turns-keeps further_most)
       (λ next later left is same.
-        let fewer = turn-less (round a) (body a).keeps state.left state next later is in
-        rest next others left later (omega (arith, fewer, less)) (omega (arith, fewer, further_less, e, same)) same)
+      let fewer = turn-less (round a) (body a).keeps state.left state next later is in
+      rest next others left later (omega (arith, fewer, less)) (omega (arith, fewer, further_less, e, same)) same)
       (turn-on (round a) (body a) state.left others further state e)
   again-on most further_most rest a false others further state less further_less e = steady_nothing.on others further state e
 
@@ -246,12 +246,12 @@ module _ {A : Type 0} (goes_on : A → Doing Bool) (round : A → Doing A)
   turns-on (suc most) (suc further_most) a others further state less further_less e =
       bind-on others (goes_on a state) (goes_on a (record state { left = further })) _ _
       (λ again. keeps_if again _ _
-        (keeps_bind (turn (round a)) _ (keeps_turn (round a) (body a).keeps) (λ next. turns-keeps further_most next))
-        steady_nothing.keeps)
+      (keeps_bind (turn (round a)) _ (keeps_turn (round a) (body a).keeps) (λ next. turns-keeps further_most next))
+      steady_nothing.keeps)
       (λ again later left is same.
-        let fewer : later.left ≤ state.left = rw (sym (ap (λ ran. (state_in ran).left) is)) ((test a).keeps.fewer state) in
-        again-on most further_most (turns-on most further_most) a again others left later (omega (arith, fewer, less))
-        (omega (arith, fewer, further_less, e, same)) same)
+      let fewer : later.left ≤ state.left = rw (sym (ap (λ ran. (state_in ran).left) is)) ((test a).keeps.fewer state) in
+      again-on most further_most (turns-on most further_most) a again others left later (omega (arith, fewer, less))
+      (omega (arith, fewer, further_less, e, same)) same)
       ((test a).on others further state e)
 
   pub steady_loops : (a : A) → IsSteady (loops goes_on round a)

@@ -12,12 +12,11 @@ use Rattle.dbpl_meaning.proofs.Levels.{does-map, does-roll, value-map, value_of-
 use Rattle.dbpl_meaning.proofs.Rows.{AreSteady, steady_does, steady_value}
 use Rattle.dbpl_meaning.proofs.Steady.{IsSteady, steady_bind, steady_block, steady_gives, steady_in_frame, steady_nothing, steady_of_type, steady_stops, steady_there, steady_turn, steady_up_to_return}
 use Rattle.dbpl_meaning.specs.Expressions.{Calls, meaning_of, value_level, value_of}
-use Rattle.dbpl_meaning.specs.Meaning.{bodies, body_does, calls_at, limit, named_does, result_of, routine_does, without_value}
+use Rattle.dbpl_meaning.specs.Meaning.{bodies, body_does, calls_at, named_does, result_of, routine_does, without_value}
 use Rattle.dbpl_meaning.specs.State.{Doing}
 use Rattle.dbpl_meaning.specs.Statements.{does, does_level}
 use Rattle.dbpl_meaning.specs.Words.{AtEnd, ByReturn, Leaving, traps, turn}
 use Rattle.dbpl_value.specs.declared.db_type.DbType.{DbType}
-use Rattle.dbpl_value.specs.declared.value.Value.{Value}
 
 module _ (program : Program) (calls : Calls) (steady : AreSteady calls) where
   abbrev IsSteadyExpr : CoreExpr → Type 0

@@ -1,11 +1,11 @@
 -- What the laws of phrases say of whole programs.
-use Rattle.std.proofs.Common.{◌≡◌, ◌+◌, ◌≤◌, ℕ, zero, suc, List, [], ◌∷◌, ◌++◌, ap, arith, refl, sym}
+use Rattle.std.proofs.Common.{◌≡◌, ◌+◌, ◌≤◌, ℕ, List, ◌++◌, arith, refl}
 use Rattle.dbpl_core.specs.Events.{Event}
 use Rattle.dbpl_core.specs.declared.program.Program.{Program}
-use Rattle.dbpl_meaning.proofs.Goes.{Goes, Keeps, goes-here}
-use Rattle.dbpl_meaning.proofs.Steady.{Follows, IsSteady}
+use Rattle.dbpl_meaning.proofs.Goes.{Goes, goes-here}
+use Rattle.dbpl_meaning.proofs.Steady.{Follows}
 use Rattle.dbpl_meaning.proofs.Trees.{steady_bodies}
-use Rattle.dbpl_meaning.specs.Meaning.{Ended, Going, Outcome, Trapped, Wrong, bodies, begun, meaning, outcome_at, outcome_of, runs, standing}
+use Rattle.dbpl_meaning.specs.Meaning.{Ended, Going, Outcome, bodies, begun, meaning, outcome_at, outcome_of, runs, standing}
 use Rattle.dbpl_meaning.specs.State as phrase
 use Rattle.dbpl_meaning.specs.State.{Doing, Done, Ran, State, Stop, Stops, state_in}
 use Rattle.dbpl_value.specs.declared.bound.Bound.{Bound}
@@ -22,11 +22,19 @@ pub record GoesOn (less further : Outcome) : Type 0 where
 further-state : (ran : Ran (Unit {0})) (state : State) → Goes state.work state.store (state_in ran) →
     GoesOn (outcome_at Going state) (outcome_of ran)
 further-state (Done done further) state goes = record {
-  rest = goes.rest; events = goes.events; taken = goes.taken; input = goes.input; works = goes.works;
+  rest = goes.rest;
+  events = goes.events;
+  taken = goes.taken;
+  input = goes.input;
+  works = goes.works;
   stays = λ h. absurd (h refl);
 }
 further-state (Stops why further) state goes = record {
-  rest = goes.rest; events = goes.events; taken = goes.taken; input = goes.input; works = goes.works;
+  rest = goes.rest;
+  events = goes.events;
+  taken = goes.taken;
+  input = goes.input;
+  works = goes.works;
   stays = λ h. absurd (h refl);
 }
 

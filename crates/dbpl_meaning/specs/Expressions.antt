@@ -1,7 +1,7 @@
 -- What an expression means: one row for each form. A row value_at what stands in it by the field `value` of its meaning, so a
 -- further table over the same forms is a further field. Roots and steps that come with sets and persistent variables are
 -- rows of `root_of` and `step_of`.
-use Rattle.std.specs.Prelude.{ℕ, ◌-◌, ℤ, pos, ◌-ℤ◌, nat_abs, Bool, false, true, not, if◌then◌else◌, List, [], ◌∷◌, ◌++◌, map, length, replicate, Option, Some, None}
+use Rattle.std.specs.Prelude.{ℕ, ◌-◌, pos, ◌-ℤ◌, nat_abs, Bool, false, true, not, if◌then◌else◌, List, [], ◌++◌, map, length, replicate, Option, Some, None}
 use Rattle.dbpl_core.specs.declared.argument_of.CoreArgumentOf.{CoreArgumentOf}
 use Rattle.dbpl_core.specs.declared.argument_of.CoreArgumentOf.TheVariants as arguments
 use Rattle.dbpl_core.specs.declared.call_of.CoreCallOf.{CoreCallOf}
@@ -21,9 +21,9 @@ use Rattle.dbpl_core.specs.declared.step_of.CoreStepOf.TheVariants as steps
 use Rattle.dbpl_base.specs.declared.place.Place.{Place}
 use Rattle.dbpl_meaning.specs.Declared.{global_number, global_reference}
 use Rattle.dbpl_meaning.specs.InOut.{Given, Referred, Valued}
-use Rattle.dbpl_meaning.specs.Numbers.{are_related, compared, fitted, in_host, number_of_bool, reckoned, signed, standard_number, within}
+use Rattle.dbpl_meaning.specs.Numbers.{compared, fitted, in_host, number_of_bool, reckoned, signed, standard_number, within}
 use Rattle.dbpl_meaning.specs.State.{Doing, Wrong}
-use Rattle.dbpl_meaning.specs.Words.{◌>>=◌, ◌>>◌, each, each_with, gives, nothing, number, of_type, value_at, variable_at, spend, stops, there, truth}
+use Rattle.dbpl_meaning.specs.Words.{◌>>=◌, ◌>>◌, each, each_with, gives, number, of_type, value_at, variable_at, spend, stops, there, truth}
 use Rattle.dbpl_value.specs.Types.{count_of}
 use Rattle.dbpl_value.specs.declared.db_type.DbType.{DbType, DbType-F, out-DbType}
 use Rattle.dbpl_value.specs.declared.db_type.DbType.TheOpen as kinds

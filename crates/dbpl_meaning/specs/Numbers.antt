@@ -1,5 +1,5 @@
 -- What signs, operators and standard functions make of numbers, and how values are compared.
-use Rattle.std.specs.Prelude.{ℕ, ◌-◌, ℤ, pos, negsuc, ◌+ℤ◌, ◌-ℤ◌, ◌*ℤ◌, neg_ℤ, nat_abs, int_le, Bool, not, if◌then◌else◌, Option, Some, None}
+use Rattle.std.specs.Prelude.{ℕ, ℤ, pos, negsuc, ◌+ℤ◌, ◌-ℤ◌, ◌*ℤ◌, neg_ℤ, nat_abs, int_le, Bool, not, if◌then◌else◌, Option, Some, None}
 use Rattle.std.specs.Cmp.Lexicographic.{slice_cmp}
 use Rattle.std.specs.Int.{int_div_euclid, int_rem_euclid}
 use Rattle.std.specs.Ordering.{int_cmp, is_eq, is_ge, is_gt, is_le, is_lt, is_ne}
@@ -18,7 +18,7 @@ use Rattle.dbpl_core.specs.declared.standard_function.StandardFunction.TheVarian
 use Rattle.dbpl_core.specs.declared.whole_host.WholeHost.{WholeHost}
 use Rattle.dbpl_core.specs.declared.whole_host.WholeHost.TheVariants as hosts
 use Rattle.dbpl_meaning.specs.State.{Doing, Wrong}
-use Rattle.dbpl_meaning.specs.Words.{◌>>=◌, ◌>>◌, gives, number, number_of_type, stops, there, traps}
+use Rattle.dbpl_meaning.specs.Words.{◌>>=◌, gives, number, number_of_type, stops, there, traps}
 use Rattle.dbpl_value.specs.Equality.{is_same}
 use Rattle.dbpl_value.specs.Keys.{component_of}
 use Rattle.dbpl_value.specs.Types.{is_in, range_of}

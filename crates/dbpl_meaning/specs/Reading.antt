@@ -1,5 +1,5 @@
 -- Which number ReadInt and ReadCard find at the front of the input, and how much of it they take.
-use Rattle.std.specs.Prelude.{ℕ, ◌+◌, ◌-◌, ◌*◌, min, ℤ, pos, neg_ℤ, Bool, true, false, ◌&&◌, ◌||◌, ◌==◌, if◌then◌else◌, List, [], ◌∷◌, fold, length, drop, take_while, Option, Some, None}
+use Rattle.std.specs.Prelude.{ℕ, ◌+◌, ◌-◌, ◌*◌, min, ℤ, pos, neg_ℤ, Bool, false, ◌&&◌, ◌||◌, ◌==◌, if◌then◌else◌, List, [], ◌∷◌, fold, length, drop, take_while, Option, Some, None}
 use Rattle.dbpl_base.specs.Words.{is_blank, is_digit}
 use Rattle.dbpl_value.specs.Types.{is_in}
 use Rattle.dbpl_value.specs.declared.range.Range.{Range}

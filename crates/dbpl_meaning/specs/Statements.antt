@@ -1,7 +1,6 @@
 -- What a statement means: one row for each form. Each statement is one work, which stands in front of all rows. ABORT, FOR EACH
 -- and the operators on relations are rows more.
 use Rattle.std.specs.Prelude.{ℕ, ℤ, pos, negsuc, ◌+ℤ◌, ◌-ℤ◌, int_le, Bool, false, true, not, if◌then◌else◌, List, [], ◌∷◌, Option, Some, None}
-use Rattle.dbpl_base.specs.declared.place.Place.{Place}
 use Rattle.dbpl_core.specs.declared.arm_of.CoreArmOf.{CoreArmOf}
 use Rattle.dbpl_core.specs.declared.branch_of.CoreBranchOf.{CoreBranchOf}
 use Rattle.dbpl_core.specs.declared.control_of.CoreControlOf.{CoreControlOf}

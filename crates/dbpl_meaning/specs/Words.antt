@@ -8,7 +8,7 @@ use Rattle.dbpl_core.specs.Stores.{Store, held_at}
 use Rattle.dbpl_core.specs.declared.cell.Cell.{Cell}
 use Rattle.dbpl_core.specs.declared.reference.Reference.{Reference}
 use Rattle.dbpl_core.specs.declared.trap.Trap.{Trap}
-use Rattle.dbpl_meaning.specs.State.{Doing, Done, Ended, Exiting, Going, Ran, Returning, State, Stop, Stops, Trapped, Wrong}
+use Rattle.dbpl_meaning.specs.State.{Doing, Done, Exiting, Going, Ran, Returning, State, Stop, Stops, Trapped, Wrong}
 use Rattle.dbpl_value.specs.Paths.{type_at_path}
 use Rattle.dbpl_value.specs.Values.{is_of}
 use Rattle.dbpl_value.specs.declared.db_type.DbType.{DbType}

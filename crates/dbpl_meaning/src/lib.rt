@@ -3,4 +3,7 @@
 
 mod laws;
 
-pub use laws::{calls_are_limited, leaving_ends_at_routines, loops_take_turns, meaning_by_rows, meaning_is_steady};
+pub use laws::{
+    calls_are_limited, leaving_ends_at_routines, loops_take_turns, meaning_by_rows,
+    meaning_is_steady,
+};
