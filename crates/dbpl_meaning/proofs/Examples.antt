@@ -1,6 +1,6 @@
 -- Small programs, what each comes to and how much work it is, computed from the rows. All places are one here but where a
 -- trap stands.
-use Rattle.std.proofs.Common.{◌≡◌, ◌+◌, ℕ, suc, ℤ, ◌+ℤ◌, List, [], ◌∷◌, Option, Some, None, pos, Bool, true, refl, ap, ◌∙◌, false}
+use Rattle.std.proofs.Common.{◌≡◌, ◌+◌, ℕ, suc, ℤ, ◌+ℤ◌, List, [], ◌∷◌, Option, Some, None, pos, negsuc, Bool, true, refl, ap, ◌∙◌, false}
 use Rattle.std.specs.Prelude.{codes}
 use Rattle.std.specs.Fmt.{digits}
 use Rattle.std.specs.Ordering.{int_cmp}
@@ -21,6 +21,7 @@ use Rattle.dbpl_core.specs.declared.comparison.Comparison.TheVariants as compari
 use Rattle.dbpl_core.specs.declared.direction.Direction.TheVariants as directions
 use Rattle.dbpl_core.specs.declared.relation.Relation.TheVariants as relations
 use Rattle.dbpl_core.specs.declared.designator_of.CoreDesignatorOf.{CoreDesignatorOf}
+use Rattle.dbpl_core.specs.declared.sign.Sign.TheVariants as signs
 use Rattle.dbpl_core.specs.declared.root.Root.TheVariants as roots
 use Rattle.dbpl_core.specs.declared.argument_of.CoreArgumentOf.TheVariants as arguments
 use Rattle.dbpl_core.specs.declared.expr.CoreExpr.{CoreExpr, CoreExpr-F, out-roll-CoreExpr, roll-CoreExpr}
@@ -42,10 +43,11 @@ use Rattle.dbpl_meaning.specs.State.{Doing, Done, State, Stops}
 use Rattle.dbpl_meaning.specs.Statements.{carried_host, condition, does, number_in_host, of, round_with, row}
 use Rattle.dbpl_meaning.specs.Numbers.{in_host, is_related, wide}
 use Rattle.dbpl_meaning.specs.State as phrase
-use Rattle.dbpl_meaning.specs.Words.{◌>>=◌, AtEnd, assigns, block, closes_frame, each_with, gives, in_frame, looks, nothing, number_of_type, opens_frame, replaces, spend, stops, turn, up_to_return, value_at, variable_at, writes}
+use Rattle.dbpl_meaning.specs.Words.{◌>>=◌, AtEnd, assigns, block, closes_frame, each_with, gives, in_frame, looks, nothing, number_of_type, of_type, opens_frame, replaces, spend, stops, turn, up_to_return, value_at, variable_at, writes}
+use Rattle.dbpl_value.proofs.ValuesLemmas.{is_of-out}
 use Rattle.dbpl_value.proofs.TypeParts.{by_parts-out}
 use Rattle.dbpl_value.specs.Types.{is_in, range_of}
-use Rattle.dbpl_value.specs.Values.{start_level, start_value_of}
+use Rattle.dbpl_value.specs.Values.{is_of, start_level, start_value_of}
 use Rattle.dbpl_value.specs.declared.range.Range.{Range}
 use Rattle.dbpl_value.specs.declared.db_type.DbType.{DbType}
 use Rattle.dbpl_value.specs.declared.db_type.DbType.TheVariants as kinds
@@ -53,26 +55,26 @@ use Rattle.dbpl_value.specs.declared.value.Value.{Value}
 use Rattle.dbpl_value.specs.declared.value.Value.TheVariants as value
 use Rattle.dbpl_value.specs.declared.variable.Variable.{Variable}
 
-abbrev p : Place
+abbrev pub p : Place
 p = record { unit = 0; line = 1; col = 1 }
 
-abbrev Stmt : Type 0
+abbrev pub Stmt : Type 0
 Stmt = CoreStmtOf CoreExpr
 
-abbrev unit_of : List Variable → List Routine → List Stmt → CoreUnit
+abbrev pub unit_of : List Variable → List Routine → List Stmt → CoreUnit
 unit_of globals routines body = record { name = codes "M"; form = 3; globals = globals; routines = routines; body = body }
 
-abbrev program_of : List Variable → List Routine → List Stmt → Program
+abbrev pub program_of : List Variable → List Routine → List Stmt → Program
 program_of globals routines body = record { units = unit_of globals routines body ∷ []; order = 0 ∷ [] }
 
 -- what a program comes to whose one body does this
-unfoldable comes_to : Program → Doing (Unit {0}) → List ℕ → ℕ → Outcome
+unfoldable pub comes_to : Program → Doing (Unit {0}) → List ℕ → ℕ → Outcome
 comes_to program doing input turns =
     outcome_of
     ((turn (in_frame [] (up_to_return doing >>= (λ leaving. without_value leaving))) >>= (λ _. nothing))
     (begun program [] input turns))
 
-of-body :
+pub of-body :
     (globals : List Variable) (routines : List Routine) (body : List Stmt) (input : List ℕ) (turns : ℕ) →
     meaning (program_of globals routines body) [] input turns
     ≡ comes_to (program_of globals routines body)
@@ -102,20 +104,20 @@ write_card =
     (arguments.Value (roll-CoreExpr (exprs.Fitted p kinds.Card (roll-CoreExpr seven))) ∷
     arguments.Value (roll-CoreExpr (exprs.Fitted p width (roll-CoreExpr three))) ∷ [])) ∷ [])
 
-abbrev cards : Range
+abbrev pub cards : Range
 cards = record { least = pos 0; greatest = pos 4294967295 }
 
-card-range : range_of kinds.Card ≡ Some cards
+pub card-range : range_of kinds.Card ≡ Some cards
 card-range = rw kinds.outs-Card refl
 
 width-range : range_of width ≡ Some (record { least = pos 0; greatest = pos 1000 })
 width-range = rw (kinds.outs-Sub kinds.Card (pos 0) (pos 1000)) refl
 
-abbrev opened : Program → List ℕ → ℕ → State
+abbrev pub opened : Program → List ℕ → ℕ → State
 opened program input turns = record { left = turns; work = 1; store = stores.opens [] (first_store (started_globals program) [] input) }
 
 -- a body that comes to its end
-ended-comes :
+pub ended-comes :
     (program : Program) (doing : Doing (Unit {0})) (input : List ℕ) (turns : ℕ) (state : State) →
     doing (opened program input turns) ≡ Done (tt {0}) state →
     comes_to program doing input (suc turns)
@@ -124,24 +126,24 @@ unfolding comes_to ◌>>=◌ gives turn up_to_return opens_frame closes_frame st
 ended-comes program doing input turns state is = rw is refl
 
 -- a body of one statement
-one-runs :
+pub one-runs :
     (program : Program) (calls : Calls) (x : CoreStmtOf-F CoreExpr Stmt) (state further : State) →
     row program calls (does program calls) x (after 1 state) ≡ Done (tt {0}) further →
     block (does program calls) (roll-CoreStmtOf CoreExpr x ∷ []) state ≡ Done (tt {0}) further
 one-runs program calls x state further is =
     then _ _ _ _ _ _ (row-runs program calls x state (Done (tt {0}) further) is) (gives-runs (tt {0}) further)
 
-in_out-runs :
+pub in_out-runs :
     (program : Program) (place : Place) (doing : Doing (Unit {0})) (state further : State) (left : ℕ) → state.left ≡ suc left →
     doing (record state { left = left; work = state.work + 1 }) ≡ Done (tt {0}) further →
     (calls_at program 9999).in_out place doing state ≡ Done (tt {0}) further
 in_out-runs program place doing state further left some is =
     ap (λ (phrase : Doing (Unit {0})). phrase state) (one-in_out program 9998 place doing) ∙ turn-one doing state left some ∙ is
 
-abbrev state_with : ℕ → ℕ → Store → State
+abbrev pub state_with : ℕ → ℕ → Store → State
 state_with left work store = record { left = left; work = work; store = store }
 
-abbrev empty_store : Program → Store
+abbrev pub empty_store : Program → Store
 empty_store program = stores.opens [] (first_store (started_globals program) [] [])
 
 pub write_card-comes : meaning write_card [] [] 100 ≡ record { events = Out 32 ∷ Out 32 ∷ Out 55 ∷ []; stands = Ended; input = []; work = 29 }
@@ -192,19 +194,19 @@ write_string-comes =
 
 -- ---- one variable c of type CARDINAL
 
-abbrev c_declared : List Variable
+abbrev pub c_declared : List Variable
 c_declared = record { name = codes "c"; kind = kinds.Card } ∷ []
 
-abbrev c_named : CoreDesignatorOf CoreExpr
+abbrev pub c_named : CoreDesignatorOf CoreExpr
 c_named = record { place = p; root = roots.Global (codes "M") (codes "c"); root_kind = kinds.Card; steps = [] }
 
-abbrev c_read : CoreExpr
+abbrev pub c_read : CoreExpr
 c_read = roll-CoreExpr (exprs.Read c_named kinds.Card)
 
-abbrev literal : ℕ → CoreExpr
+abbrev pub literal : ℕ → CoreExpr
 literal n = roll-CoreExpr (exprs.Number p (pos n))
 
-abbrev store_of : ℕ → Store
+abbrev pub store_of : ℕ → Store
 store_of n = record {
   globals = cell.Holds kinds.Card (value.Num (pos n)) ∷ started kinds.Bool ∷ [];
   frames = [] ∷ [] ∷ [];
@@ -213,7 +215,7 @@ store_of n = record {
   events = [];
 }
 
-start-card : start_value_of kinds.Card ≡ value.Num (pos 0)
+pub start-card : start_value_of kinds.Card ≡ value.Num (pos 0)
 start-card = by_parts-out Value start_level kinds.Card ∙ rw kinds.outs-Card refl
 
 c_begins : (body : List Stmt) (turns : ℕ) → opened (program_of c_declared [] body) [] turns ≡ state_with turns 1 (store_of 0)
@@ -342,7 +344,7 @@ cut-comes :
 unfolding comes_to ◌>>=◌ turn up_to_return opens_frame
 cut-comes program doing input turns state is = rw is refl
 
-abbrev empty : Stmt
+abbrev pub empty : Stmt
 empty = roll-CoreStmtOf CoreExpr (stmts.Empty p)
 
 abbrev endless : List Stmt
@@ -379,7 +381,7 @@ endless-comes =
 -- ---- CASE 3 OF 1: | 2: END
 
 -- a body that traps
-trap-comes :
+pub trap-comes :
     (program : Program) (doing : Doing (Unit {0})) (input : List ℕ) (turns : ℕ) (trap : Trap) (state : State) →
     doing (opened program input turns) ≡ Stops (phrase.Trapped trap) state →
     comes_to program doing input (suc turns)
@@ -387,7 +389,7 @@ trap-comes :
 unfolding comes_to ◌>>=◌ turn up_to_return opens_frame
 trap-comes program doing input turns trap state is = rw is refl
 
-abbrev word_case : Place
+abbrev pub word_case : Place
 word_case = record { unit = 0; line = 1; col = 17 }
 
 abbrev label : ℕ → CoreBranchOf Stmt
@@ -611,3 +613,111 @@ twice-does =
 
 pub twice-comes : meaning twice [] [] 100 ≡ record { events = []; stands = Ended; input = []; work = 13 }
 twice-comes = of-body _ _ _ _ _ ∙ ended-comes twice _ [] 99 _ twice-does
+
+-- ---- i := -1; FOR c := 0 TO i DO END, with i an INTEGER
+
+abbrev i_named : CoreDesignatorOf CoreExpr
+i_named = record { place = p; root = roots.Global (codes "M") (codes "i"); root_kind = kinds.Int; steps = [] }
+
+abbrev i_read : CoreExpr-F CoreExpr
+i_read = exprs.Read i_named kinds.Int
+
+abbrev minus_one : CoreExpr
+minus_one = roll-CoreExpr (exprs.Signed p signs.Minus None (literal 1))
+
+abbrev i_set : CoreStmtOf-F CoreExpr Stmt
+i_set = stmts.Assign p i_named (roll-CoreExpr (exprs.Fitted p kinds.Int minus_one))
+
+abbrev no_turn : CoreStmtOf-F CoreExpr Stmt
+no_turn = stmts.For p control (literal 0) (roll-CoreExpr i_read) None (empty ∷ [])
+
+abbrev falling : Program
+falling =
+    program_of (record { name = codes "c"; kind = kinds.Card } ∷ record { name = codes "i"; kind = kinds.Int } ∷ []) []
+    (roll-CoreStmtOf CoreExpr i_set ∷ roll-CoreStmtOf CoreExpr no_turn ∷ [])
+
+abbrev fall_calls : Calls
+fall_calls = calls_at falling 9999
+
+abbrev store_with_i : Value → Store
+store_with_i v = record {
+  globals = started kinds.Card ∷ cell.Holds kinds.Int v ∷ started kinds.Bool ∷ [];
+  frames = [] ∷ [] ∷ [];
+  database = [];
+  input = [];
+  events = [];
+}
+
+abbrev ints : Range
+ints = record { least = negsuc 2147483647; greatest = pos 2147483647 }
+
+int-range : range_of kinds.Int ≡ Some ints
+int-range = rw kinds.outs-Int refl
+
+minus_one-of : is_of kinds.Int (value.Num (negsuc 0)) ≡ true
+minus_one-of = is_of-out kinds.Int (value.Num (negsuc 0)) ∙ rw (kinds.outs-Int, value.outs-Num (negsuc 0)) refl
+
+of_int-runs : (state : State) → of_type kinds.Int (value.Num (negsuc 0)) state ≡ Done (value.Num (negsuc 0)) state
+unfolding gives
+of_int-runs state = rw minus_one-of refl
+
+i-led : (state : State) → led_to falling (of falling fall_calls) i_named state ≡ Done (global_reference 1) (after 1 state)
+unfolding ◌>>=◌ spend gives
+i-led state = refl
+
+i-gets :
+    (v : Value) (left work : ℕ) →
+    assigns (global_reference 1) (value.Num (negsuc 0)) (state_with left work (store_with_i v)) ≡ Done (tt {0}) (state_with left work (store_with_i (value.Num (negsuc 0))))
+unfolding assigns looks replaces stores.puts
+i-gets v left work = then _ _ _ _ _ _ refl (then _ _ _ _ _ _ (of_int-runs _) refl)
+
+minus_one-runs : (left work : ℕ) (store : Store) → value_of falling fall_calls minus_one (state_with left work store) ≡ Done (value.Num (negsuc 0)) (state_with left (work + 1 + 1) store)
+minus_one-runs left work store =
+    value-runs falling fall_calls (exprs.Signed p signs.Minus None (literal 1)) _ _
+    (then _ _ _ _ _ _ (spend-runs 1 _)
+    (then _ _ _ _ _ _ (number_text-runs falling fall_calls p (pos 1) _)
+    (then _ _ _ _ _ _ (number-runs (pos 1) _)
+    (then _ _ _ _ _ _ (exact-runs (negsuc 0) _ refl) (gives-runs _ _)))))
+
+i_set-runs : (v : Value) → does falling fall_calls (roll-CoreStmtOf CoreExpr i_set) (state_with 99 1 (store_with_i v)) ≡ Done (tt {0}) (state_with 99 5 (store_with_i (value.Num (negsuc 0))))
+i_set-runs v =
+    row-runs falling fall_calls i_set _ _
+    (then _ _ _ _ _ _ (i-led _)
+    (then _ _ _ _ _ _ (fits-runs falling fall_calls p kinds.Int ints minus_one (negsuc 0) _ _ int-range refl (minus_one-runs 99 3 (store_with_i v)))
+    (i-gets v 99 5)))
+
+i-host : carried_host kinds.Card (roll-CoreExpr i_read) ≡ kinds.Int
+i-host = rw (out-roll-CoreExpr i_read, kinds.outs-Int) refl
+
+first-runs :
+    (left work : ℕ) (store : Store) →
+    number_in_host falling fall_calls (carried_host kinds.Card (literal 0)) (literal 0) (state_with left work store) ≡ Done (pos 0) (state_with left (work + 1) store)
+first-runs left work store =
+    rw (literal-host 0)
+    (then _ _ _ _ _ _ (number_text-runs falling fall_calls p (pos 0) _) (number_of_card-runs (pos 0) _ refl))
+
+last-runs :
+    (left work : ℕ) →
+    number_in_host falling fall_calls (carried_host kinds.Card (roll-CoreExpr i_read)) (roll-CoreExpr i_read)
+    (state_with left work (store_with_i (value.Num (negsuc 0))))
+    ≡ Done (negsuc 0) (state_with left (work + 1) (store_with_i (value.Num (negsuc 0))))
+unfolding value_at looks stores.reads
+last-runs left work =
+    rw i-host
+    (then _ _ _ _ _ _ (value-runs falling fall_calls i_read _ _ (then _ _ _ _ _ _ (i-led _) refl))
+    (then _ _ _ _ _ _ (of_int-runs _) (number-runs (negsuc 0) _)))
+
+falling-does :
+    (v : Value) → block (does falling fall_calls) (roll-CoreStmtOf CoreExpr i_set ∷ roll-CoreStmtOf CoreExpr no_turn ∷ []) (state_with 99 1 (store_with_i v))
+    ≡ Done (tt {0}) (state_with 99 8 (store_with_i (value.Num (negsuc 0))))
+falling-does v =
+    then (does falling fall_calls (roll-CoreStmtOf CoreExpr i_set)) _ _ _ _ _ (i_set-runs v)
+    (one-runs _ _ _ _ _
+    (then _ _ _ _ _ _ (first-runs 99 6 _)
+    (then _ _ _ _ _ _ (last-runs 99 7)
+    (then _ _ _ _ _ _ (spend-runs 0 _)
+    (loops-runs _ _ _ _ _ (turn-ends _ _ _ _ _ _ (gives-runs false _)))))))
+
+pub falling-comes : meaning falling [] [] 100 ≡ record { events = []; stands = Ended; input = []; work = 8 }
+unfolding stores.opens
+falling-comes = of-body _ _ _ _ _ ∙ ended-comes falling _ [] 99 _ (falling-does (start_value_of kinds.Int))

@@ -3,8 +3,10 @@ pub mod Goes
 pub mod Leaving
 pub mod Levels
 pub mod Loops
+pub mod ReadingExamples
 pub mod Rows
 pub mod Running
 pub mod Steady
+pub mod TrapExamples
 pub mod Trees
 pub mod Whole
