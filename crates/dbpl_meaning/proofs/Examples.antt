@@ -476,7 +476,7 @@ p_head = record {
   result = None;
 }
 
-abbrev slot : ℕ → CoreDesignatorOf CoreExpr
+abbrev pub slot : ℕ → CoreDesignatorOf CoreExpr
 slot n = record { place = p; root = roots.Frame n; root_kind = kinds.Card; steps = [] }
 
 abbrev slot_read : ℕ → CoreExpr
@@ -550,7 +550,7 @@ x_set-runs =
     (then _ _ _ _ _ _ (fits-runs twice p_calls p kinds.Card cards (literal 1) (pos 1) _ _ card-range refl (number_text-runs twice p_calls p (pos 1) _))
     (frame-gets 98 8 0 1 refl)))
 
-in_cards-runs : (n : ℤ) (state : State) → is_in cards n ≡ true → in_host (Some hosts.Cardinal) p n state ≡ Done n state
+pub in_cards-runs : (n : ℤ) (state : State) → is_in cards n ≡ true → in_host (Some hosts.Cardinal) p n state ≡ Done n state
 unfolding ◌>>=◌ gives
 in_cards-runs n state lies = rw (card-range, lies) refl
 

@@ -1,3 +1,4 @@
+pub mod CallExamples
 pub mod Examples
 pub mod Goes
 pub mod Leaving
