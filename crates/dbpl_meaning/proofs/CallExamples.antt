@@ -1,6 +1,6 @@
 -- c := f(3), with PROCEDURE f(n: CARDINAL): CARDINAL; BEGIN IF n > 0 THEN RETURN n * f(n - 1) END END f; computed from the
 -- rows. The call with 0 reaches the END of f, while those with 3, 2 and 1 are open.
-use Rattle.std.proofs.Common.{◌≡◌, ◌+◌, ◌∙◌, ℕ, suc, ℤ, pos, ◌-ℤ◌, Bool, true, false, List, [], ◌∷◌, ◌++◌, Option, Some, None, ap, refl}
+use Rattle.std.proofs.Common.{◌≡◌, ◌+◌, ◌∙◌, ℕ, suc, ℤ, pos, ◌-ℤ◌, Bool, true, false, List, [], ◌∷◌, Option, Some, None, ap, refl}
 use Rattle.std.specs.Ordering.{int_cmp}
 use Rattle.std.specs.Prelude.{codes}
 use Rattle.dbpl_base.specs.declared.place.Place.{Place}
@@ -9,7 +9,6 @@ use Rattle.dbpl_core.specs.Stores.{Store}
 use Rattle.dbpl_core.specs.declared.argument_of.CoreArgumentOf.TheVariants as arguments
 use Rattle.dbpl_core.specs.declared.arithmetic_operator.ArithmeticOperator.TheVariants as operators
 use Rattle.dbpl_core.specs.declared.arm_of.CoreArmOf.{CoreArmOf}
-use Rattle.dbpl_core.specs.declared.call_of.CoreCallOf.{CoreCallOf}
 use Rattle.dbpl_core.specs.declared.cell.Cell.{Cell}
 use Rattle.dbpl_core.specs.declared.cell.Cell.TheVariants as cell
 use Rattle.dbpl_core.specs.declared.comparison.Comparison.TheVariants as comparisons
@@ -20,20 +19,20 @@ use Rattle.dbpl_core.specs.declared.reference.Reference.{Reference}
 use Rattle.dbpl_core.specs.declared.reference_root.ReferenceRoot.TheVariants as root
 use Rattle.dbpl_core.specs.declared.relation.Relation.TheVariants as relations
 use Rattle.dbpl_core.specs.declared.routine.Routine.{Routine}
-use Rattle.dbpl_core.specs.declared.stmt.CoreStmtOf.{CoreStmtOf, CoreStmtOf-F, roll-CoreStmtOf}
+use Rattle.dbpl_core.specs.declared.stmt.CoreStmtOf.{CoreStmtOf-F, roll-CoreStmtOf}
 use Rattle.dbpl_core.specs.declared.stmt.CoreStmtOf.TheOpen as stmts
 use Rattle.dbpl_core.specs.declared.whole_host.WholeHost.TheVariants as hosts
-use Rattle.dbpl_meaning.proofs.Examples.{Stmt, c_declared, c_named, card-range, cards, in_cards-runs, literal, of-body, opened, p, program_of, slot, state_with, trap-comes}
+use Rattle.dbpl_meaning.proofs.Examples.{Statement, c_declared, c_named, card-range, cards, in_cards-runs, literal, of-body, here, program_of, slot, state_with, trap-comes}
 use Rattle.dbpl_meaning.proofs.Running.{after, compared-runs, fits-runs, gives-runs, number-runs, number_text-runs, of_card-runs, row-runs, spend-runs, stopped, then, there-runs, truth-runs, turn-runs, value-runs}
 use Rattle.dbpl_meaning.proofs.Trees.{one-call}
 use Rattle.dbpl_meaning.specs.Declared.{global_reference, started}
 use Rattle.dbpl_meaning.specs.Expressions.{Calls, led_to, value_of}
-use Rattle.dbpl_meaning.specs.Meaning.{Trapped, calls_at, meaning, named_does, result_of}
+use Rattle.dbpl_meaning.specs.Meaning.{Trapped, calls_at, meaning}
 use Rattle.dbpl_meaning.specs.Numbers.{is_related}
 use Rattle.dbpl_meaning.specs.State as phrase
 use Rattle.dbpl_meaning.specs.State.{Doing, Done, Ran, State, Stops}
 use Rattle.dbpl_meaning.specs.Statements.{condition, does, of}
-use Rattle.dbpl_meaning.specs.Words.{◌>>=◌, ◌>>◌, AtEnd, block, gives, looks, nothing, opens_frame, spend, stops, trap, up_to_return, value_at, variable_at}
+use Rattle.dbpl_meaning.specs.Words.{◌>>=◌, AtEnd, block, gives, looks, nothing, opens_frame, spend, stops, trap, up_to_return, value_at, variable_at}
 use Rattle.dbpl_value.specs.Types.{is_in}
 use Rattle.dbpl_value.specs.declared.db_type.DbType.TheVariants as kinds
 use Rattle.dbpl_value.specs.declared.head.Head.{Head}
@@ -54,41 +53,41 @@ f_head = record {
 
 abbrev called_with : CoreExpr → CoreExpr-F CoreExpr
 called_with e = exprs.Call (record {
-  place = p;
+  place = here;
   owner = codes "M";
   head = f_head;
-  arguments = arguments.Value (roll-CoreExpr (exprs.Fitted p kinds.Card e)) ∷ [];
+  arguments = arguments.Value (roll-CoreExpr (exprs.Fitted here kinds.Card e)) ∷ [];
 }) kinds.Card
 
 abbrev n_read : CoreExpr
 n_read = roll-CoreExpr (exprs.Read (slot 0) kinds.Card)
 
 abbrev n_positive : CoreExpr-F CoreExpr
-n_positive = exprs.Compared p p relations.Greater comparisons.Numbers n_read (literal 0)
+n_positive = exprs.Compared here here relations.Greater comparisons.Numbers n_read (literal 0)
 
 abbrev one_less : CoreExpr-F CoreExpr
-one_less = exprs.Arithmetic p p operators.Minus (Some hosts.Cardinal) n_read (literal 1)
+one_less = exprs.Arithmetic here here operators.Minus (Some hosts.Cardinal) n_read (literal 1)
 
 abbrev product : CoreExpr-F CoreExpr
-product = exprs.Arithmetic p p operators.Times (Some hosts.Cardinal) n_read (roll-CoreExpr (called_with (roll-CoreExpr one_less)))
+product = exprs.Arithmetic here here operators.Times (Some hosts.Cardinal) n_read (roll-CoreExpr (called_with (roll-CoreExpr one_less)))
 
-abbrev product_returned : CoreStmtOf-F CoreExpr Stmt
-product_returned = stmts.Return p (Some (roll-CoreExpr (exprs.Fitted p kinds.Card (roll-CoreExpr product))))
+abbrev product_returned : CoreStmtOf-F CoreExpr Statement
+product_returned = stmts.Return here (Some (roll-CoreExpr (exprs.Fitted here kinds.Card (roll-CoreExpr product))))
 
-abbrev f_arm : CoreArmOf CoreExpr Stmt
+abbrev f_arm : CoreArmOf CoreExpr Statement
 f_arm = record { condition = roll-CoreExpr n_positive; statements = roll-CoreStmtOf CoreExpr product_returned ∷ [] }
 
-abbrev f_if : CoreStmtOf-F CoreExpr Stmt
-f_if = stmts.If p (f_arm ∷ []) None
+abbrev f_if : CoreStmtOf-F CoreExpr Statement
+f_if = stmts.If here (f_arm ∷ []) None
 
-abbrev f_body : List Stmt
+abbrev f_body : List Statement
 f_body = roll-CoreStmtOf CoreExpr f_if ∷ []
 
 abbrev f_routine : Routine
 f_routine = record { head = f_head; locals = []; body = f_body; finish = q }
 
-abbrev c_set : CoreStmtOf-F CoreExpr Stmt
-c_set = stmts.Assign p c_named (roll-CoreExpr (exprs.Fitted p kinds.Card (roll-CoreExpr (called_with (literal 3)))))
+abbrev c_set : CoreStmtOf-F CoreExpr Statement
+c_set = stmts.Assign here c_named (roll-CoreExpr (exprs.Fitted here kinds.Card (roll-CoreExpr (called_with (literal 3)))))
 
 abbrev recursing : Program
 recursing = program_of c_declared (f_routine ∷ []) (roll-CoreStmtOf CoreExpr c_set ∷ [])
@@ -110,14 +109,14 @@ store_with frames = record {
 module _ (calls : Calls) where
   fitted-stops :
       (e : CoreExpr) (state last : State) (stop : phrase.Stop) → value_of recursing calls e state ≡ Stops stop last →
-      value_of recursing calls (roll-CoreExpr (exprs.Fitted p kinds.Card e)) state ≡ Stops stop last
-  fitted-stops e state last stop is = value-runs recursing calls (exprs.Fitted p kinds.Card e) _ _ (stopped _ _ _ _ _ is)
+      value_of recursing calls (roll-CoreExpr (exprs.Fitted here kinds.Card e)) state ≡ Stops stop last
+  fitted-stops e state last stop is = value-runs recursing calls (exprs.Fitted here kinds.Card e) _ _ (stopped _ _ _ _ _ is)
 
   -- a call with a number, of which the routine stops
   call-stops :
       (e : CoreExpr) (n : ℕ) (state between last : State) (stop : phrase.Stop) → is_in cards (pos n) ≡ true →
       value_of recursing calls e (after 1 state) ≡ Done (value.Num (pos n)) between →
-      calls.routine p (codes "M") (codes "f") (holds n ∷ []) between ≡ Stops stop last →
+      calls.routine here (codes "M") (codes "f") (holds n ∷ []) between ≡ Stops stop last →
       value_of recursing calls (roll-CoreExpr (called_with e)) state ≡ Stops stop last
   call-stops e n state between last stop lies argument is =
       value-runs recursing calls (called_with e) _ _
@@ -126,7 +125,7 @@ module _ (calls : Calls) where
       (then _ _ _ _ _ _
       (then _ _ _ _ _ _
       (then _ _ _ _ _ _
-      (then _ _ _ _ _ _ (fits-runs recursing calls p kinds.Card cards e (pos n) _ _ card-range lies argument) (gives-runs _ _))
+      (then _ _ _ _ _ _ (fits-runs recursing calls here kinds.Card cards e (pos n) _ _ card-range lies argument) (gives-runs _ _))
       (then _ _ _ _ _ _ (of_card-runs (pos n) _ lies) (gives-runs _ _)))
       (then _ _ _ _ _ _ (gives-runs _ _) (gives-runs _ _)))
       is)))
@@ -150,7 +149,7 @@ module _ (room n : ℕ) (frames : List (List Cell)) (r : Reference)
       (value-runs recursing f_calls n_positive _ _
       (then _ _ _ _ _ _ (spend-runs 1 _)
       (then _ _ _ _ _ _ (n-runs left (work + 1))
-      (then _ _ _ _ _ _ (number_text-runs recursing f_calls p (pos 0) _)
+      (then _ _ _ _ _ _ (number_text-runs recursing f_calls here (pos 0) _)
       (then _ _ _ _ _ _ (compared-runs relations.Greater (pos n) (pos 0) _) (gives-runs _ _))))))
       (truth-runs _ _)
 
@@ -163,7 +162,7 @@ module _ (room n : ℕ) (frames : List (List Cell)) (r : Reference)
       (then _ _ _ _ _ _ (spend-runs 1 _)
       (then _ _ _ _ _ _ (n-runs left (work + 1))
       (then _ _ _ _ _ _ (number-runs (pos n) _)
-      (then _ _ _ _ _ _ (number_text-runs recursing f_calls p (pos 1) _)
+      (then _ _ _ _ _ _ (number_text-runs recursing f_calls here (pos 1) _)
       (then _ _ _ _ _ _ (number-runs (pos 1) _)
       (then _ _ _ _ (pos m) _ (ap (λ (k : ℤ). gives k (state_with left (work + 1 + 1 + 1) (store_with frames))) is ∙ gives-runs (pos m) _)
       (then _ _ _ _ _ _ (in_cards-runs (pos m) _ lies) (gives-runs _ _))))))))
@@ -172,7 +171,7 @@ module _ (room n : ℕ) (frames : List (List Cell)) (r : Reference)
   body-stops :
       (left work m : ℕ) (last : State) (stop : phrase.Stop) → is_related relations.Greater (int_cmp (pos n) (pos 0)) ≡ true →
       pos n -ℤ pos 1 ≡ pos m → is_in cards (pos m) ≡ true →
-      f_calls.routine p (codes "M") (codes "f") (holds m ∷ []) (state_with left (work + 1 + 1 + 1 + 1 + 1 + 1 + 1 + 1 + 1 + 1 + 1) (store_with frames)) ≡ Stops stop last →
+      f_calls.routine here (codes "M") (codes "f") (holds m ∷ []) (state_with left (work + 1 + 1 + 1 + 1 + 1 + 1 + 1 + 1 + 1 + 1 + 1) (store_with frames)) ≡ Stops stop last →
       block (does recursing f_calls) f_body (state_with left work (store_with frames)) ≡ Stops stop last
   body-stops left work m last stop positive is lies inner =
       stopped (does recursing f_calls (roll-CoreStmtOf CoreExpr f_if)) (λ _. nothing) _ _ _
@@ -218,14 +217,14 @@ module _ (room n left work : ℕ) (frames inner : List (List Cell)) (last : Stat
     (opening : opens_frame (holds n ∷ []) (state_with left (work + 1) (store_with frames)) ≡ Done (tt {0}) (state_with left (work + 1) (store_with inner))) where
   abbrev beginning : Type 0
   beginning =
-      (calls_at recursing (suc room)).routine p (codes "M") (codes "f") (holds n ∷ []) (state_with (suc left) work (store_with frames))
+      (calls_at recursing (suc room)).routine here (codes "M") (codes "f") (holds n ∷ []) (state_with (suc left) work (store_with frames))
       ≡ Stops (phrase.Trapped (trap 6 q)) last
 
   routine-traps :
       block (does recursing (calls_at recursing room)) f_body (state_with left (work + 1) (store_with inner)) ≡ Stops (phrase.Trapped (trap 6 q)) last →
       beginning
   routine-traps is =
-      ap (λ (doing : Doing (Option Value)). doing (state_with (suc left) work (store_with frames))) (one-call recursing room p (codes "M") (codes "f") (holds n ∷ []))
+      ap (λ (doing : Doing (Option Value)). doing (state_with (suc left) work (store_with frames))) (one-call recursing room here (codes "M") (codes "f") (holds n ∷ []))
       ∙ turn-runs _ (state_with (suc left) work (store_with frames)) left _ refl
       (then _ _ _ _ _ _ (there-runs _ f_routine _ refl)
       (then (opens_frame (holds n ∷ [])) _ _ _ _ _ opening
@@ -237,7 +236,7 @@ module _ (room n left work : ℕ) (frames inner : List (List Cell)) (last : Stat
       beginning
   unfolding stops
   routine-ends is =
-      ap (λ (doing : Doing (Option Value)). doing (state_with (suc left) work (store_with frames))) (one-call recursing room p (codes "M") (codes "f") (holds n ∷ []))
+      ap (λ (doing : Doing (Option Value)). doing (state_with (suc left) work (store_with frames))) (one-call recursing room here (codes "M") (codes "f") (holds n ∷ []))
       ∙ turn-runs _ (state_with (suc left) work (store_with frames)) left _ refl
       (then _ _ _ _ _ _ (there-runs _ f_routine _ refl)
       (then (opens_frame (holds n ∷ [])) _ _ _ _ _ opening
@@ -268,7 +267,7 @@ abbrev last_state : State
 last_state = state_with 95 46 (store_with with_0)
 
 pub recursing-stops :
-    (calls_at recursing 9999).routine p (codes "M") (codes "f") (holds 3 ∷ []) (state_with 99 5 (store_with outside))
+    (calls_at recursing 9999).routine here (codes "M") (codes "f") (holds 3 ∷ []) (state_with 99 5 (store_with outside))
     ≡ Stops (phrase.Trapped (trap 6 q)) last_state
 unfolding ◌>>=◌ spend gives variable_at looks stores.refers value_at stores.reads opens_frame stores.opens
 recursing-stops =
@@ -296,4 +295,4 @@ recursing-comes =
     (then _ _ _ _ _ _ (c-led _)
     (stopped _ _ _ _ _
     (fitted-stops calls (roll-CoreExpr (called_with (literal 3))) _ _ _
-    (call-stops calls (literal 3) 3 _ _ _ _ refl (number_text-runs recursing calls p (pos 3) _) recursing-stops))))))
+    (call-stops calls (literal 3) 3 _ _ _ _ refl (number_text-runs recursing calls here (pos 3) _) recursing-stops))))))

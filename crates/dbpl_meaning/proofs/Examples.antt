@@ -55,16 +55,16 @@ use Rattle.dbpl_value.specs.declared.value.Value.{Value}
 use Rattle.dbpl_value.specs.declared.value.Value.TheVariants as value
 use Rattle.dbpl_value.specs.declared.variable.Variable.{Variable}
 
-abbrev pub p : Place
-p = record { unit = 0; line = 1; col = 1 }
+abbrev pub here : Place
+here = record { unit = 0; line = 1; col = 1 }
 
-abbrev pub Stmt : Type 0
-Stmt = CoreStmtOf CoreExpr
+abbrev pub Statement : Type 0
+Statement = CoreStmtOf CoreExpr
 
-abbrev pub unit_of : List Variable → List Routine → List Stmt → CoreUnit
+abbrev pub unit_of : List Variable → List Routine → List Statement → CoreUnit
 unit_of globals routines body = record { name = codes "M"; form = 3; globals = globals; routines = routines; body = body }
 
-abbrev pub program_of : List Variable → List Routine → List Stmt → Program
+abbrev pub program_of : List Variable → List Routine → List Statement → Program
 program_of globals routines body = record { units = unit_of globals routines body ∷ []; order = 0 ∷ [] }
 
 -- what a program comes to whose one body does this
@@ -75,7 +75,7 @@ comes_to program doing input turns =
     (begun program [] input turns))
 
 pub of-body :
-    (globals : List Variable) (routines : List Routine) (body : List Stmt) (input : List ℕ) (turns : ℕ) →
+    (globals : List Variable) (routines : List Routine) (body : List Statement) (input : List ℕ) (turns : ℕ) →
     meaning (program_of globals routines body) [] input turns
     ≡ comes_to (program_of globals routines body)
     (block (does (program_of globals routines body) (calls_at (program_of globals routines body) 9999)) body) input turns
@@ -92,17 +92,17 @@ abbrev width : DbType
 width = kinds.Sub kinds.Card (pos 0) (pos 1000)
 
 abbrev seven : CoreExpr-F CoreExpr
-seven = exprs.Number p (pos 7)
+seven = exprs.Number here (pos 7)
 
 abbrev three : CoreExpr-F CoreExpr
-three = exprs.Number p (pos 3)
+three = exprs.Number here (pos 3)
 
 abbrev write_card : Program
 write_card =
     program_of [] []
-    (roll-CoreStmtOf CoreExpr (stmts.InOut p procedures.WriteCard
-    (arguments.Value (roll-CoreExpr (exprs.Fitted p kinds.Card (roll-CoreExpr seven))) ∷
-    arguments.Value (roll-CoreExpr (exprs.Fitted p width (roll-CoreExpr three))) ∷ [])) ∷ [])
+    (roll-CoreStmtOf CoreExpr (stmts.InOut here procedures.WriteCard
+    (arguments.Value (roll-CoreExpr (exprs.Fitted here kinds.Card (roll-CoreExpr seven))) ∷
+    arguments.Value (roll-CoreExpr (exprs.Fitted here width (roll-CoreExpr three))) ∷ [])) ∷ [])
 
 abbrev pub cards : Range
 cards = record { least = pos 0; greatest = pos 4294967295 }
@@ -127,7 +127,7 @@ ended-comes program doing input turns state is = rw is refl
 
 -- a body of one statement
 pub one-runs :
-    (program : Program) (calls : Calls) (x : CoreStmtOf-F CoreExpr Stmt) (state further : State) →
+    (program : Program) (calls : Calls) (x : CoreStmtOf-F CoreExpr Statement) (state further : State) →
     row program calls (does program calls) x (after 1 state) ≡ Done (tt {0}) further →
     block (does program calls) (roll-CoreStmtOf CoreExpr x ∷ []) state ≡ Done (tt {0}) further
 one-runs program calls x state further is =
@@ -155,13 +155,13 @@ write_card-comes =
     (one-runs write_card calls _ _ _
     (then _ _ _ _ _ _
     (then _ _ _ _ _ _
-    (then _ _ _ _ _ _ (fits-runs write_card calls p kinds.Card cards _ _ _ _ card-range refl (number_text-runs write_card calls p (pos 7) _)) (gives-runs _ _))
+    (then _ _ _ _ _ _ (fits-runs write_card calls here kinds.Card cards _ _ _ _ card-range refl (number_text-runs write_card calls here (pos 7) _)) (gives-runs _ _))
     (then _ _ _ _ _ _
     (then _ _ _ _ _ _
-    (then _ _ _ _ _ _ (fits-runs write_card calls p width _ _ _ _ _ width-range refl (number_text-runs write_card calls p (pos 3) _)) (gives-runs _ _))
+    (then _ _ _ _ _ _ (fits-runs write_card calls here width _ _ _ _ _ width-range refl (number_text-runs write_card calls here (pos 3) _)) (gives-runs _ _))
     (then _ _ _ _ _ _ (gives-runs _ _) (gives-runs _ _)))
     (gives-runs _ _)))
-    (in_out-runs write_card p _ _ _ 98 refl
+    (in_out-runs write_card here _ _ _ 98 refl
     (then _ _ _ _ _ _ (number_of_card-runs (pos 7) _ refl)
     (then _ _ _ _ _ _ (number_of_card-runs (pos 3) _ refl) refl)))))
 
@@ -173,8 +173,8 @@ ab = 97 ∷ 98 ∷ []
 abbrev write_string : Program
 write_string =
     program_of [] []
-    (roll-CoreStmtOf CoreExpr (stmts.InOut p procedures.WriteString
-    (arguments.Value (roll-CoreExpr (exprs.Text p None (codes "ab"))) ∷ [])) ∷ [])
+    (roll-CoreStmtOf CoreExpr (stmts.InOut here procedures.WriteString
+    (arguments.Value (roll-CoreExpr (exprs.Text here None (codes "ab"))) ∷ [])) ∷ [])
 
 characters-ab : characters_of (value.Arr (characters ab)) ≡ Some ab
 characters-ab = rw (value.outs-Arr (characters ab), value.outs-Num (pos 97), value.outs-Num (pos 98)) refl
@@ -188,9 +188,9 @@ write_string-comes =
     (one-runs write_string calls _ _ _
     (then _ _ _ _ _ _
     (then _ _ _ _ _ _
-    (then _ _ _ _ _ _ (value-runs write_string calls (exprs.Text p None (codes "ab")) _ _ (then _ _ _ _ _ _ (spend-runs 1 _) (gives-runs _ _))) (gives-runs _ _))
+    (then _ _ _ _ _ _ (value-runs write_string calls (exprs.Text here None (codes "ab")) _ _ (then _ _ _ _ _ _ (spend-runs 1 _) (gives-runs _ _))) (gives-runs _ _))
     (then _ _ _ _ _ _ (gives-runs _ _) (gives-runs _ _)))
-    (in_out-runs write_string p _ _ _ 98 refl (then _ _ _ _ _ _ (there-runs _ _ _ characters-ab) refl))))
+    (in_out-runs write_string here _ _ _ 98 refl (then _ _ _ _ _ _ (there-runs _ _ _ characters-ab) refl))))
 
 -- ---- one variable c of type CARDINAL
 
@@ -198,13 +198,13 @@ abbrev pub c_declared : List Variable
 c_declared = record { name = codes "c"; kind = kinds.Card } ∷ []
 
 abbrev pub c_named : CoreDesignatorOf CoreExpr
-c_named = record { place = p; root = roots.Global (codes "M") (codes "c"); root_kind = kinds.Card; steps = [] }
+c_named = record { place = here; root = roots.Global (codes "M") (codes "c"); root_kind = kinds.Card; steps = [] }
 
 abbrev pub c_read : CoreExpr
 c_read = roll-CoreExpr (exprs.Read c_named kinds.Card)
 
 abbrev pub literal : ℕ → CoreExpr
-literal n = roll-CoreExpr (exprs.Number p (pos n))
+literal n = roll-CoreExpr (exprs.Number here (pos n))
 
 abbrev pub store_of : ℕ → Store
 store_of n = record {
@@ -218,11 +218,11 @@ store_of n = record {
 pub start-card : start_value_of kinds.Card ≡ value.Num (pos 0)
 start-card = by_parts-out Value start_level kinds.Card ∙ rw kinds.outs-Card refl
 
-c_begins : (body : List Stmt) (turns : ℕ) → opened (program_of c_declared [] body) [] turns ≡ state_with turns 1 (store_of 0)
+c_begins : (body : List Statement) (turns : ℕ) → opened (program_of c_declared [] body) [] turns ≡ state_with turns 1 (store_of 0)
 unfolding stores.opens
 c_begins body turns = rw start-card refl
 
-module _ (body : List Stmt) where
+module _ (body : List Statement) where
   abbrev program : Program
   program = program_of c_declared [] body
 
@@ -246,18 +246,18 @@ module _ (body : List Stmt) where
 -- ---- c := 1 + 2
 
 abbrev sum : CoreExpr
-sum = roll-CoreExpr (exprs.Arithmetic p p operators.Plus None (literal 1) (literal 2))
+sum = roll-CoreExpr (exprs.Arithmetic here here operators.Plus None (literal 1) (literal 2))
 
-abbrev sum_assigned : List Stmt
-sum_assigned = roll-CoreStmtOf CoreExpr (stmts.Assign p c_named (roll-CoreExpr (exprs.Fitted p kinds.Card sum))) ∷ []
+abbrev sum_assigned : List Statement
+sum_assigned = roll-CoreStmtOf CoreExpr (stmts.Assign here c_named (roll-CoreExpr (exprs.Fitted here kinds.Card sum))) ∷ []
 
 sum-runs : (left work : ℕ) (store : Store) → value_of (program sum_assigned) (calls sum_assigned) sum (state_with left work store) ≡ Done (value.Num (pos 3)) (state_with left (work + 1 + 1 + 1) store)
 sum-runs left work store =
-    value-runs _ _ (exprs.Arithmetic p p operators.Plus None (literal 1) (literal 2)) _ _
+    value-runs _ _ (exprs.Arithmetic here here operators.Plus None (literal 1) (literal 2)) _ _
     (then _ _ _ _ _ _ (spend-runs 1 _)
-    (then _ _ _ _ _ _ (number_text-runs _ _ p (pos 1) _)
+    (then _ _ _ _ _ _ (number_text-runs _ _ here (pos 1) _)
     (then _ _ _ _ _ _ (number-runs (pos 1) _)
-    (then _ _ _ _ _ _ (number_text-runs _ _ p (pos 2) _)
+    (then _ _ _ _ _ _ (number_text-runs _ _ here (pos 2) _)
     (then _ _ _ _ _ _ (number-runs (pos 2) _)
     (then _ _ _ _ _ _ (gives-runs _ _)
     (then _ _ _ _ _ _ (gives-runs _ _) (gives-runs _ _))))))))
@@ -268,7 +268,7 @@ sum-does =
     rw (c_begins sum_assigned 99)
     (one-runs _ _ _ _ _
     (then _ _ _ _ _ _ (c-led sum_assigned _)
-    (then _ _ _ _ _ _ (fits-runs _ _ p kinds.Card cards sum (pos 3) _ _ card-range refl (sum-runs 99 3 (store_of 0)))
+    (then _ _ _ _ _ _ (fits-runs _ _ here kinds.Card cards sum (pos 3) _ _ card-range refl (sum-runs 99 3 (store_of 0)))
     (c-gets sum_assigned 99 6 0 3 refl))))
 
 pub sum-comes : meaning (program sum_assigned) [] [] 100 ≡ record { events = []; stands = Ended; input = []; work = 6 }
@@ -277,28 +277,28 @@ sum-comes = of-body _ _ _ _ _ ∙ ended-comes (program sum_assigned) _ [] 99 _ s
 -- ---- WHILE c < 3 DO INC(c) END
 
 abbrev less : CoreExpr
-less = roll-CoreExpr (exprs.Compared p p relations.Less comparisons.Numbers c_read (literal 3))
+less = roll-CoreExpr (exprs.Compared here here relations.Less comparisons.Numbers c_read (literal 3))
 
-abbrev inc : Stmt
-inc = roll-CoreStmtOf CoreExpr (stmts.Count p directions.Up c_named kinds.Card None)
+abbrev inc : Statement
+inc = roll-CoreStmtOf CoreExpr (stmts.Count here directions.Up c_named kinds.Card None)
 
-abbrev counted_up : List Stmt
-counted_up = roll-CoreStmtOf CoreExpr (stmts.While p less (inc ∷ [])) ∷ []
+abbrev counted_up : List Statement
+counted_up = roll-CoreStmtOf CoreExpr (stmts.While here less (inc ∷ [])) ∷ []
 
 abbrev is_less : ℕ → Bool
 is_less n = is_related relations.Less (int_cmp (pos n) (pos 3))
 
-module _ (body : List Stmt) where
+module _ (body : List Statement) where
   less-runs :
       (left work n : ℕ) →
       condition (program body) (calls body) less (state_with left work (store_of n))
       ≡ Done (is_less n) (state_with left (work + 1 + 1 + 1) (store_of n))
   less-runs left work n =
       then _ _ _ _ _ _
-      (value-runs (program body) (calls body) (exprs.Compared p p relations.Less comparisons.Numbers c_read (literal 3)) _ _
+      (value-runs (program body) (calls body) (exprs.Compared here here relations.Less comparisons.Numbers c_read (literal 3)) _ _
       (then _ _ _ _ _ _ (spend-runs 1 _)
       (then _ _ _ _ _ _ (c-reads body left (work + 1) n)
-      (then _ _ _ _ _ _ (number_text-runs _ _ p (pos 3) _)
+      (then _ _ _ _ _ _ (number_text-runs _ _ here (pos 3) _)
       (then _ _ _ _ _ _ (compared-runs relations.Less (pos n) (pos 3) _) (gives-runs _ _))))))
       (truth-runs (is_less n) _)
 
@@ -314,7 +314,7 @@ module _ (body : List Stmt) where
       (then _ _ _ _ (value.Num (pos n)) _ refl
       (then _ _ _ _ _ _ (number-runs (pos n) _)
       (then _ _ _ _ _ _ (exact-runs (pos (n + 1)) _ wide_lies)
-      (then _ _ _ _ _ _ (fitted-runs kinds.Card cards p (pos (n + 1)) _ card-range lies)
+      (then _ _ _ _ _ _ (fitted-runs kinds.Card cards here (pos (n + 1)) _ card-range lies)
       (c-gets body left (work + 1 + 1) n (n + 1) lies)))))))
 
 -- c is 3 afterwards
@@ -344,22 +344,22 @@ cut-comes :
 unfolding comes_to ◌>>=◌ turn up_to_return opens_frame
 cut-comes program doing input turns state is = rw is refl
 
-abbrev pub empty : Stmt
-empty = roll-CoreStmtOf CoreExpr (stmts.Empty p)
+abbrev pub empty : Statement
+empty = roll-CoreStmtOf CoreExpr (stmts.Empty here)
 
-abbrev endless : List Stmt
-endless = roll-CoreStmtOf CoreExpr (stmts.While p (literal 1) (empty ∷ [])) ∷ []
+abbrev endless : List Statement
+endless = roll-CoreStmtOf CoreExpr (stmts.While here (literal 1) (empty ∷ [])) ∷ []
 
 true-runs :
     (left work : ℕ) (store : Store) →
     condition (program_of [] [] endless) (calls_at (program_of [] [] endless) 9999) (literal 1) (state_with left work store)
     ≡ Done true (state_with left (work + 1) store)
-true-runs left work store = then _ _ _ _ _ _ (number_text-runs _ _ p (pos 1) _) (truth-runs true _)
+true-runs left work store = then _ _ _ _ _ _ (number_text-runs _ _ here (pos 1) _) (truth-runs true _)
 
 empty-runs :
     (program : Program) (calls : Calls) (left work : ℕ) (store : Store) →
     block (does program calls) (empty ∷ []) (state_with left work store) ≡ Done (tt {0}) (state_with left (work + 1) store)
-empty-runs program calls left work store = one-runs program calls (stmts.Empty p) _ _ (gives-runs _ _)
+empty-runs program calls left work store = one-runs program calls (stmts.Empty here) _ _ (gives-runs _ _)
 
 pub endless-comes : meaning (program_of [] [] endless) [] [] 5 ≡ record { events = []; stands = Going; input = []; work = 15 }
 unfolding stores.opens
@@ -370,7 +370,7 @@ endless-comes =
     of-body _ _ _ _ _ ∙
     cut-comes all _ [] 4 (state_with 0 15 store)
     (stopped _ _ _ _ _
-    (row-runs all calls (stmts.While p (literal 1) (empty ∷ [])) _ _
+    (row-runs all calls (stmts.While here (literal 1) (empty ∷ [])) _ _
     (loops-runs _ _ _ _ _
     (turn-again _ _ _ _ _ _ _ _ _ (true-runs 4 2 store) (turn-runs _ _ 3 _ refl (empty-runs all calls 3 4 store))
     (turn-again _ _ _ _ _ _ _ _ _ (true-runs 3 5 store) (turn-runs _ _ 2 _ refl (empty-runs all calls 2 7 store))
@@ -392,10 +392,10 @@ trap-comes program doing input turns trap state is = rw is refl
 abbrev pub word_case : Place
 word_case = record { unit = 0; line = 1; col = 17 }
 
-abbrev label : ℕ → CoreBranchOf Stmt
+abbrev label : ℕ → CoreBranchOf Statement
 label n = record { labels = record { least = pos n; greatest = pos n } ∷ []; statements = empty ∷ [] }
 
-abbrev unlabelled : List Stmt
+abbrev unlabelled : List Statement
 unlabelled =
     roll-CoreStmtOf CoreExpr (stmts.Case word_case (literal 3) kinds.Card (label 1 ∷ label 2 ∷ []) None) ∷ []
 
@@ -413,7 +413,7 @@ unlabelled-comes =
     (λ _. nothing) _ _ _
     (row-runs all calls (stmts.Case word_case (literal 3) kinds.Card (label 1 ∷ label 2 ∷ []) None) _ _
     (then (number_in_host all calls kinds.Card (literal 3)) _ (state_with 99 2 store) (state_with 99 3 store) (pos 3) _
-    (then (value_of all calls (literal 3)) (number_of_type kinds.Card) _ _ _ _ (number_text-runs all calls p (pos 3) _)
+    (then (value_of all calls (literal 3)) (number_of_type kinds.Card) _ _ _ _ (number_text-runs all calls here (pos 3) _)
     (number_of_card-runs (pos 3) _ refl))
     refl)))
 
@@ -422,11 +422,11 @@ unlabelled-comes =
 abbrev control : CoreControlOf CoreExpr
 control = record { variable = c_named; kind = kinds.Card; host = kinds.Card }
 
-abbrev counting : List Stmt
-counting = roll-CoreStmtOf CoreExpr (stmts.For p control (literal 1) (literal 3) None (empty ∷ [])) ∷ []
+abbrev counting : List Statement
+counting = roll-CoreStmtOf CoreExpr (stmts.For here control (literal 1) (literal 3) None (empty ∷ [])) ∷ []
 
 literal-host : (n : ℕ) → carried_host kinds.Card (literal n) ≡ kinds.Card
-literal-host n = rw (out-roll-CoreExpr (exprs.Number p (pos n))) refl
+literal-host n = rw (out-roll-CoreExpr (exprs.Number here (pos n))) refl
 
 bound-runs :
     (n left work : ℕ) (store : Store) → is_in cards (pos n) ≡ true →
@@ -434,7 +434,7 @@ bound-runs :
     ≡ Done (pos n) (state_with left (work + 1) store)
 bound-runs n left work store lies =
     rw (literal-host n)
-    (then _ _ _ _ _ _ (number_text-runs (program counting) (calls counting) p (pos n) _) (number_of_card-runs (pos n) _ lies))
+    (then _ _ _ _ _ _ (number_text-runs (program counting) (calls counting) here (pos n) _) (number_of_card-runs (pos n) _ lies))
 
 -- a turn of the FOR, with the number m where c was n
 counting-runs :
@@ -445,7 +445,7 @@ counting-runs :
 counting-runs n m left work lies =
     then _ _ _ _ _ _
     (then _ _ _ _ _ _ (c-led counting _)
-    (then _ _ _ _ _ _ (fitted-runs kinds.Card cards p (pos m) _ card-range lies) (c-gets counting left (work + 1) n m lies)))
+    (then _ _ _ _ _ _ (fitted-runs kinds.Card cards here (pos m) _ card-range lies) (c-gets counting left (work + 1) n m lies)))
     (then _ _ _ _ _ _ (empty-runs _ _ left (work + 1) (store_of m)) (gives-runs _ _))
 
 -- c is 3 afterwards
@@ -477,35 +477,35 @@ p_head = record {
 }
 
 abbrev pub slot : ℕ → CoreDesignatorOf CoreExpr
-slot n = record { place = p; root = roots.Frame n; root_kind = kinds.Card; steps = [] }
+slot n = record { place = here; root = roots.Frame n; root_kind = kinds.Card; steps = [] }
 
 abbrev slot_read : ℕ → CoreExpr
 slot_read n = roll-CoreExpr (exprs.Read (slot n) kinds.Card)
 
 abbrev slots_added : CoreExpr-F CoreExpr
-slots_added = exprs.Arithmetic p p operators.Plus (Some hosts.Cardinal) (slot_read 1) (slot_read 0)
+slots_added = exprs.Arithmetic here here operators.Plus (Some hosts.Cardinal) (slot_read 1) (slot_read 0)
 
-abbrev x_set : CoreStmtOf-F CoreExpr Stmt
-x_set = stmts.Assign p (slot 0) (roll-CoreExpr (exprs.Fitted p kinds.Card (literal 1)))
+abbrev x_set : CoreStmtOf-F CoreExpr Statement
+x_set = stmts.Assign here (slot 0) (roll-CoreExpr (exprs.Fitted here kinds.Card (literal 1)))
 
-abbrev y_set : CoreStmtOf-F CoreExpr Stmt
-y_set = stmts.Assign p (slot 1) (roll-CoreExpr (exprs.Fitted p kinds.Card (roll-CoreExpr slots_added)))
+abbrev y_set : CoreStmtOf-F CoreExpr Statement
+y_set = stmts.Assign here (slot 1) (roll-CoreExpr (exprs.Fitted here kinds.Card (roll-CoreExpr slots_added)))
 
-abbrev p_body : List Stmt
+abbrev p_body : List Statement
 p_body = roll-CoreStmtOf CoreExpr x_set ∷ roll-CoreStmtOf CoreExpr y_set ∷ []
 
 abbrev p_routine : Routine
-p_routine = record { head = p_head; locals = []; body = p_body; finish = p }
+p_routine = record { head = p_head; locals = []; body = p_body; finish = here }
 
 abbrev p_call : CoreCallOf CoreExpr
 p_call = record {
-  place = p;
+  place = here;
   owner = codes "M";
   head = p_head;
   arguments = arguments.Variable c_named ∷ arguments.Variable c_named ∷ [];
 }
 
-abbrev p_called : List Stmt
+abbrev p_called : List Statement
 p_called = roll-CoreStmtOf CoreExpr (stmts.Call p_call) ∷ []
 
 abbrev twice : Program
@@ -547,10 +547,10 @@ x_set-runs : does twice p_calls (roll-CoreStmtOf CoreExpr x_set) (state_with 98 
 x_set-runs =
     row-runs twice p_calls x_set _ _
     (then _ _ _ _ _ _ (slot-led-0 98 6 0)
-    (then _ _ _ _ _ _ (fits-runs twice p_calls p kinds.Card cards (literal 1) (pos 1) _ _ card-range refl (number_text-runs twice p_calls p (pos 1) _))
+    (then _ _ _ _ _ _ (fits-runs twice p_calls here kinds.Card cards (literal 1) (pos 1) _ _ card-range refl (number_text-runs twice p_calls here (pos 1) _))
     (frame-gets 98 8 0 1 refl)))
 
-pub in_cards-runs : (n : ℤ) (state : State) → is_in cards n ≡ true → in_host (Some hosts.Cardinal) p n state ≡ Done n state
+pub in_cards-runs : (n : ℤ) (state : State) → is_in cards n ≡ true → in_host (Some hosts.Cardinal) here n state ≡ Done n state
 unfolding ◌>>=◌ gives
 in_cards-runs n state lies = rw (card-range, lies) refl
 
@@ -569,7 +569,7 @@ y_set-runs : does twice p_calls (roll-CoreStmtOf CoreExpr y_set) (state_with 98 
 y_set-runs =
     row-runs twice p_calls y_set _ _
     (then _ _ _ _ _ _ (slot-led-1 98 9 1)
-    (then _ _ _ _ _ _ (fits-runs twice p_calls p kinds.Card cards (roll-CoreExpr slots_added) (pos 2) _ _ card-range refl added-runs)
+    (then _ _ _ _ _ _ (fits-runs twice p_calls here kinds.Card cards (roll-CoreExpr slots_added) (pos 2) _ _ card-range refl added-runs)
     (frame-gets 98 13 1 2 refl)))
 
 returned-runs :
@@ -607,7 +607,7 @@ twice-does =
     (one-runs _ _ _ _ _
     (then _ _ _ _ _ _
     (then _ _ _ _ _ _ (twice-cells _)
-    (ap (λ (phrase : Doing (Option Value)). phrase (state_with 99 4 (store_of 0))) (one-call twice 9998 p (codes "M") (codes "p") p_cells)
+    (ap (λ (phrase : Doing (Option Value)). phrase (state_with 99 4 (store_of 0))) (one-call twice 9998 here (codes "M") (codes "p") p_cells)
     ∙ turn-runs _ (state_with 99 4 (store_of 0)) 98 _ refl p-does))
     (gives-runs _ _)))
 
@@ -617,19 +617,19 @@ twice-comes = of-body _ _ _ _ _ ∙ ended-comes twice _ [] 99 _ twice-does
 -- ---- i := -1; FOR c := 0 TO i DO END, with i an INTEGER
 
 abbrev i_named : CoreDesignatorOf CoreExpr
-i_named = record { place = p; root = roots.Global (codes "M") (codes "i"); root_kind = kinds.Int; steps = [] }
+i_named = record { place = here; root = roots.Global (codes "M") (codes "i"); root_kind = kinds.Int; steps = [] }
 
 abbrev i_read : CoreExpr-F CoreExpr
 i_read = exprs.Read i_named kinds.Int
 
 abbrev minus_one : CoreExpr
-minus_one = roll-CoreExpr (exprs.Signed p signs.Minus None (literal 1))
+minus_one = roll-CoreExpr (exprs.Signed here signs.Minus None (literal 1))
 
-abbrev i_set : CoreStmtOf-F CoreExpr Stmt
-i_set = stmts.Assign p i_named (roll-CoreExpr (exprs.Fitted p kinds.Int minus_one))
+abbrev i_set : CoreStmtOf-F CoreExpr Statement
+i_set = stmts.Assign here i_named (roll-CoreExpr (exprs.Fitted here kinds.Int minus_one))
 
-abbrev no_turn : CoreStmtOf-F CoreExpr Stmt
-no_turn = stmts.For p control (literal 0) (roll-CoreExpr i_read) None (empty ∷ [])
+abbrev no_turn : CoreStmtOf-F CoreExpr Statement
+no_turn = stmts.For here control (literal 0) (roll-CoreExpr i_read) None (empty ∷ [])
 
 abbrev falling : Program
 falling =
@@ -673,9 +673,9 @@ i-gets v left work = then _ _ _ _ _ _ refl (then _ _ _ _ _ _ (of_int-runs _) ref
 
 minus_one-runs : (left work : ℕ) (store : Store) → value_of falling fall_calls minus_one (state_with left work store) ≡ Done (value.Num (negsuc 0)) (state_with left (work + 1 + 1) store)
 minus_one-runs left work store =
-    value-runs falling fall_calls (exprs.Signed p signs.Minus None (literal 1)) _ _
+    value-runs falling fall_calls (exprs.Signed here signs.Minus None (literal 1)) _ _
     (then _ _ _ _ _ _ (spend-runs 1 _)
-    (then _ _ _ _ _ _ (number_text-runs falling fall_calls p (pos 1) _)
+    (then _ _ _ _ _ _ (number_text-runs falling fall_calls here (pos 1) _)
     (then _ _ _ _ _ _ (number-runs (pos 1) _)
     (then _ _ _ _ _ _ (exact-runs (negsuc 0) _ refl) (gives-runs _ _)))))
 
@@ -683,7 +683,7 @@ i_set-runs : (v : Value) → does falling fall_calls (roll-CoreStmtOf CoreExpr i
 i_set-runs v =
     row-runs falling fall_calls i_set _ _
     (then _ _ _ _ _ _ (i-led _)
-    (then _ _ _ _ _ _ (fits-runs falling fall_calls p kinds.Int ints minus_one (negsuc 0) _ _ int-range refl (minus_one-runs 99 3 (store_with_i v)))
+    (then _ _ _ _ _ _ (fits-runs falling fall_calls here kinds.Int ints minus_one (negsuc 0) _ _ int-range refl (minus_one-runs 99 3 (store_with_i v)))
     (i-gets v 99 5)))
 
 i-host : carried_host kinds.Card (roll-CoreExpr i_read) ≡ kinds.Int
@@ -694,7 +694,7 @@ first-runs :
     number_in_host falling fall_calls (carried_host kinds.Card (literal 0)) (literal 0) (state_with left work store) ≡ Done (pos 0) (state_with left (work + 1) store)
 first-runs left work store =
     rw (literal-host 0)
-    (then _ _ _ _ _ _ (number_text-runs falling fall_calls p (pos 0) _) (number_of_card-runs (pos 0) _ refl))
+    (then _ _ _ _ _ _ (number_text-runs falling fall_calls here (pos 0) _) (number_of_card-runs (pos 0) _ refl))
 
 last-runs :
     (left work : ℕ) →

@@ -1,6 +1,5 @@
 -- ReadCard(c) three times on the input `12 x7`, computed from the rows: c is 12, 0 and 7, and Done TRUE, FALSE and TRUE.
-use Rattle.std.proofs.Common.{◌≡◌, ◌+◌, ◌∙◌, ℕ, suc, ℤ, pos, Bool, true, false, List, [], ◌∷◌, Option, Some, None, ap, refl}
-use Rattle.std.specs.Prelude.{codes}
+use Rattle.std.proofs.Common.{◌≡◌, ◌+◌, ◌∙◌, ℕ, suc, ℤ, pos, Bool, true, false, List, [], ◌∷◌, Option, ap, refl}
 use Rattle.dbpl_core.specs.Stores as stores
 use Rattle.dbpl_core.specs.Stores.{Store}
 use Rattle.dbpl_core.specs.declared.argument_of.CoreArgumentOf.TheVariants as arguments
@@ -10,17 +9,17 @@ use Rattle.dbpl_core.specs.declared.in_out_procedure.InOutProcedure.TheVariants 
 use Rattle.dbpl_core.specs.declared.program.Program.{Program}
 use Rattle.dbpl_core.specs.declared.stmt.CoreStmtOf.{CoreStmtOf-F, roll-CoreStmtOf}
 use Rattle.dbpl_core.specs.declared.stmt.CoreStmtOf.TheOpen as stmts
-use Rattle.dbpl_meaning.proofs.Examples.{Stmt, c_declared, c_named, card-range, cards, ended-comes, in_out-runs, of-body, opened, p, program_of, start-card, state_with}
-use Rattle.dbpl_meaning.proofs.Running.{after, gives-runs, of_card-runs, row-runs, then, there-runs}
+use Rattle.dbpl_meaning.proofs.Examples.{Statement, c_declared, c_named, card-range, cards, ended-comes, in_out-runs, of-body, opened, here, program_of, start-card, state_with}
+use Rattle.dbpl_meaning.proofs.Running.{gives-runs, of_card-runs, row-runs, then}
 use Rattle.dbpl_meaning.specs.Declared.{done_reference, global_reference}
-use Rattle.dbpl_meaning.specs.Expressions.{Calls, given, led_to}
+use Rattle.dbpl_meaning.specs.Expressions.{Calls}
 use Rattle.dbpl_meaning.specs.InOut.{Referred, performs, reads_into}
 use Rattle.dbpl_meaning.specs.Meaning.{Ended, calls_at, meaning}
 use Rattle.dbpl_meaning.specs.Numbers.{number_of_bool}
 use Rattle.dbpl_meaning.specs.Reading.{front_length, front_of, number_found}
 use Rattle.dbpl_meaning.specs.State.{Doing, Done, State}
-use Rattle.dbpl_meaning.specs.Statements.{does, of}
-use Rattle.dbpl_meaning.specs.Words.{◌>>=◌, ◌>>◌, assigns, block, each, gives, input_left, looks, of_type, replaces, spend, takes_byte, takes_bytes}
+use Rattle.dbpl_meaning.specs.Statements.{does}
+use Rattle.dbpl_meaning.specs.Words.{◌>>=◌, assigns, block, gives, input_left, looks, of_type, replaces, spend, takes_byte, takes_bytes}
 use Rattle.dbpl_value.proofs.TypeParts.{by_parts-out}
 use Rattle.dbpl_value.proofs.ValuesLemmas.{is_of-out}
 use Rattle.dbpl_value.specs.Types.{is_in}
@@ -29,10 +28,10 @@ use Rattle.dbpl_value.specs.declared.db_type.DbType.TheVariants as kinds
 use Rattle.dbpl_value.specs.declared.value.Value.{Value}
 use Rattle.dbpl_value.specs.declared.value.Value.TheVariants as value
 
-abbrev read : CoreStmtOf-F CoreExpr Stmt
-read = stmts.InOut p procedures.ReadCard (arguments.Variable c_named ∷ [])
+abbrev read : CoreStmtOf-F CoreExpr Statement
+read = stmts.InOut here procedures.ReadCard (arguments.Variable c_named ∷ [])
 
-abbrev reads : List Stmt
+abbrev reads : List Statement
 reads = roll-CoreStmtOf CoreExpr read ∷ roll-CoreStmtOf CoreExpr read ∷ roll-CoreStmtOf CoreExpr read ∷ []
 
 abbrev reading : Program
@@ -86,7 +85,7 @@ read-runs :
 unfolding ◌>>=◌ spend gives input_left
 read-runs n m before after_it input rest left work cost takes lies is =
     row-runs reading calls read _ _
-    (in_out-runs reading p (performs (done_reference reading) procedures.ReadCard (Referred (global_reference 0) ∷ [])) _ _ left refl
+    (in_out-runs reading here (performs (done_reference reading) procedures.ReadCard (Referred (global_reference 0) ∷ [])) _ _ left refl
     (rw (card-range, takes) (into-runs n m before after_it rest left (work + 1 + 1 + 1 + cost) (number_found cards (front_of false input)) lies is)))
 
 start-bool : start_value_of kinds.Bool ≡ number_of_bool false

@@ -1,24 +1,22 @@
 -- Small programs that trap, computed from the rows, with the place of the trap and the work up to it.
-use Rattle.std.proofs.Common.{◌≡◌, ◌+◌, ◌∙◌, ℕ, ℤ, pos, negsuc, Bool, true, false, List, [], ◌∷◌, Option, Some, None, ap, refl}
+use Rattle.std.proofs.Common.{◌≡◌, ◌+◌, ◌∙◌, ℕ, ℤ, pos, negsuc, true, [], ◌∷◌, Some, None, refl}
 use Rattle.std.specs.Prelude.{codes}
 use Rattle.dbpl_base.specs.declared.place.Place.{Place}
 use Rattle.dbpl_core.specs.Stores as stores
 use Rattle.dbpl_core.specs.Stores.{Store, first_store}
-use Rattle.dbpl_core.specs.declared.cell.Cell.{Cell}
 use Rattle.dbpl_core.specs.declared.cell.Cell.TheVariants as cell
 use Rattle.dbpl_core.specs.declared.designator_of.CoreDesignatorOf.{CoreDesignatorOf}
-use Rattle.dbpl_core.specs.declared.expr.CoreExpr.{CoreExpr, CoreExpr-F, roll-CoreExpr}
+use Rattle.dbpl_core.specs.declared.expr.CoreExpr.{CoreExpr, roll-CoreExpr}
 use Rattle.dbpl_core.specs.declared.expr.CoreExpr.TheOpen as exprs
 use Rattle.dbpl_core.specs.declared.program.Program.{Program}
 use Rattle.dbpl_core.specs.declared.root.Root.TheVariants as roots
 use Rattle.dbpl_core.specs.declared.sign.Sign.TheVariants as signs
-use Rattle.dbpl_core.specs.declared.step_of.CoreStepOf.{CoreStepOf}
 use Rattle.dbpl_core.specs.declared.step_of.CoreStepOf.TheVariants as steps
-use Rattle.dbpl_core.specs.declared.stmt.CoreStmtOf.{CoreStmtOf, CoreStmtOf-F, roll-CoreStmtOf}
+use Rattle.dbpl_core.specs.declared.stmt.CoreStmtOf.{CoreStmtOf-F, roll-CoreStmtOf}
 use Rattle.dbpl_core.specs.declared.stmt.CoreStmtOf.TheOpen as stmts
 use Rattle.dbpl_core.specs.declared.whole_host.WholeHost.TheVariants as hosts
-use Rattle.dbpl_meaning.proofs.Examples.{Stmt, c_named, c_read, card-range, cards, literal, of-body, opened, p, program_of, state_with, trap-comes}
-use Rattle.dbpl_meaning.proofs.Running.{after, exact-runs, fits-runs, fitted-runs, gives-runs, number-runs, number_text-runs, of_card-runs, row-runs, spend-runs, stopped, then, value-runs}
+use Rattle.dbpl_meaning.proofs.Examples.{Statement, c_named, c_read, card-range, cards, literal, of-body, here, program_of, state_with, trap-comes}
+use Rattle.dbpl_meaning.proofs.Running.{after, exact-runs, fits-runs, gives-runs, number-runs, number_text-runs, of_card-runs, row-runs, spend-runs, stopped, then, value-runs}
 use Rattle.dbpl_meaning.specs.Declared.{global_reference, started}
 use Rattle.dbpl_meaning.specs.Expressions.{Calls, led_to, root_of, value_of}
 use Rattle.dbpl_meaning.specs.Meaning.{Trapped, calls_at, meaning}
@@ -26,7 +24,7 @@ use Rattle.dbpl_meaning.specs.Numbers.{in_host, within}
 use Rattle.dbpl_meaning.specs.State as phrase
 use Rattle.dbpl_meaning.specs.State.{Doing, Done, State, Stops}
 use Rattle.dbpl_meaning.specs.Statements.{does, of}
-use Rattle.dbpl_meaning.specs.Words.{◌>>=◌, ◌>>◌, assigns, block, each, gives, looks, nothing, of_type, replaces, spend, stops, trap, value_at}
+use Rattle.dbpl_meaning.specs.Words.{◌>>=◌, assigns, block, gives, looks, nothing, of_type, replaces, spend, stops, trap, value_at}
 use Rattle.dbpl_value.proofs.ValuesLemmas.{is_of-out}
 use Rattle.dbpl_value.specs.Types.{is_in, range_of}
 use Rattle.dbpl_value.specs.Values.{is_of, start_value_of}
@@ -35,7 +33,6 @@ use Rattle.dbpl_value.specs.declared.db_type.DbType.TheVariants as kinds
 use Rattle.dbpl_value.specs.declared.range.Range.{Range}
 use Rattle.dbpl_value.specs.declared.value.Value.{Value}
 use Rattle.dbpl_value.specs.declared.value.Value.TheVariants as value
-use Rattle.dbpl_value.specs.declared.variable.Variable.{Variable}
 
 -- where the trap stands
 abbrev q : Place
@@ -43,7 +40,7 @@ q = record { unit = 0; line = 1; col = 9 }
 
 -- a body of two statements, of which the second stops
 second-stops :
-    (program : Program) (calls : Calls) (x y : CoreStmtOf-F CoreExpr Stmt) (state between last : State) (stop : phrase.Stop) →
+    (program : Program) (calls : Calls) (x y : CoreStmtOf-F CoreExpr Statement) (state between last : State) (stop : phrase.Stop) →
     does program calls (roll-CoreStmtOf CoreExpr x) state ≡ Done (tt {0}) between →
     does program calls (roll-CoreStmtOf CoreExpr y) between ≡ Stops stop last →
     block (does program calls) (roll-CoreStmtOf CoreExpr x ∷ roll-CoreStmtOf CoreExpr y ∷ []) state ≡ Stops stop last
@@ -58,17 +55,17 @@ array = kinds.Arr (kinds.Sub kinds.Card (pos 1) (pos 3)) kinds.Card
 
 abbrev a_c : CoreDesignatorOf CoreExpr
 a_c = record {
-  place = p;
+  place = here;
   root = roots.Global (codes "M") (codes "a");
   root_kind = array;
   steps = steps.Index q (record { least = pos 1; greatest = pos 3 }) c_read ∷ [];
 }
 
-abbrev c_set : CoreStmtOf-F CoreExpr Stmt
-c_set = stmts.Assign p c_named (roll-CoreExpr (exprs.Fitted p kinds.Card (literal 4)))
+abbrev c_set : CoreStmtOf-F CoreExpr Statement
+c_set = stmts.Assign here c_named (roll-CoreExpr (exprs.Fitted here kinds.Card (literal 4)))
 
-abbrev a_set : CoreStmtOf-F CoreExpr Stmt
-a_set = stmts.Assign p a_c (roll-CoreExpr (exprs.Fitted p kinds.Card (literal 1)))
+abbrev a_set : CoreStmtOf-F CoreExpr Statement
+a_set = stmts.Assign here a_c (roll-CoreExpr (exprs.Fitted here kinds.Card (literal 1)))
 
 abbrev indexing : Program
 indexing =
@@ -104,7 +101,7 @@ c_set-runs :
 c_set-runs v left work =
     row-runs indexing index_calls c_set _ _
     (then _ _ _ _ _ _ (c-led _)
-    (then _ _ _ _ _ _ (fits-runs indexing index_calls p kinds.Card cards (literal 4) (pos 4) _ _ card-range refl (number_text-runs indexing index_calls p (pos 4) _))
+    (then _ _ _ _ _ _ (fits-runs indexing index_calls here kinds.Card cards (literal 4) (pos 4) _ _ card-range refl (number_text-runs indexing index_calls here (pos 4) _))
     (four-gets v left (work + 1 + 1 + 1))))
 
 four-read :
@@ -163,10 +160,10 @@ unfolding gives
 of_int-runs n state lies = rw (int-of n, lies) refl
 
 abbrev i_named : CoreDesignatorOf CoreExpr
-i_named = record { place = p; root = roots.Global (codes "M") (codes "i"); root_kind = kinds.Int; steps = [] }
+i_named = record { place = here; root = roots.Global (codes "M") (codes "i"); root_kind = kinds.Int; steps = [] }
 
 abbrev least_written : CoreExpr
-least_written = roll-CoreExpr (exprs.Signed p signs.Minus None (literal 2147483648))
+least_written = roll-CoreExpr (exprs.Signed here signs.Minus None (literal 2147483648))
 
 abbrev i_read : CoreExpr
 i_read = roll-CoreExpr (exprs.Read i_named kinds.Int)
@@ -174,11 +171,11 @@ i_read = roll-CoreExpr (exprs.Read i_named kinds.Int)
 abbrev i_negative : CoreExpr
 i_negative = roll-CoreExpr (exprs.Signed q signs.Minus (Some hosts.Integer) i_read)
 
-abbrev i_set : CoreStmtOf-F CoreExpr Stmt
-i_set = stmts.Assign p i_named (roll-CoreExpr (exprs.Fitted p kinds.Int least_written))
+abbrev i_set : CoreStmtOf-F CoreExpr Statement
+i_set = stmts.Assign here i_named (roll-CoreExpr (exprs.Fitted here kinds.Int least_written))
 
-abbrev i_turned : CoreStmtOf-F CoreExpr Stmt
-i_turned = stmts.Assign p i_named (roll-CoreExpr (exprs.Fitted q kinds.Int i_negative))
+abbrev i_turned : CoreStmtOf-F CoreExpr Statement
+i_turned = stmts.Assign here i_named (roll-CoreExpr (exprs.Fitted q kinds.Int i_negative))
 
 abbrev turning : Program
 turning = program_of (record { name = codes "i"; kind = kinds.Int } ∷ []) [] (roll-CoreStmtOf CoreExpr i_set ∷ roll-CoreStmtOf CoreExpr i_turned ∷ [])
@@ -209,9 +206,9 @@ least-runs :
     (left work : ℕ) (store : Store) →
     value_of turning turn_calls least_written (state_with left work store) ≡ Done (value.Num least_int) (state_with left (work + 1 + 1) store)
 least-runs left work store =
-    value-runs turning turn_calls (exprs.Signed p signs.Minus None (literal 2147483648)) _ _
+    value-runs turning turn_calls (exprs.Signed here signs.Minus None (literal 2147483648)) _ _
     (then _ _ _ _ _ _ (spend-runs 1 _)
-    (then _ _ _ _ _ _ (number_text-runs turning turn_calls p (pos 2147483648) _)
+    (then _ _ _ _ _ _ (number_text-runs turning turn_calls here (pos 2147483648) _)
     (then _ _ _ _ _ _ (number-runs (pos 2147483648) _)
     (then _ _ _ _ _ _ (exact-runs least_int _ refl) (gives-runs _ _)))))
 
@@ -220,7 +217,7 @@ i_set-runs :
 i_set-runs v =
     row-runs turning turn_calls i_set _ _
     (then _ _ _ _ _ _ (i-led _)
-    (then _ _ _ _ _ _ (fits-runs turning turn_calls p kinds.Int ints least_written least_int _ _ int-range refl (least-runs 99 3 (with_i v)))
+    (then _ _ _ _ _ _ (fits-runs turning turn_calls here kinds.Int ints least_written least_int _ _ int-range refl (least-runs 99 3 (with_i v)))
     (i-gets v 99 5)))
 
 i-reads : (left work : ℕ) → value_of turning turn_calls i_read (state_with left work (with_i (value.Num least_int))) ≡ Done (value.Num least_int) (state_with left (work + 1) (with_i (value.Num least_int)))
