@@ -1,6 +1,7 @@
--- The words of which the meaning of each phrase is made. Each is shut: what is proved of the meaning is proved of the words,
--- and then of what is made of them. An effect on the store is one word, over the effect that `dbpl_core` defines, which
--- the machine has too.
+-- The words of which the meaning of each phrase is made. Those that look at the state or change it are shut: what is proved of
+-- the meaning is proved of them, and then of what is made of them. An effect on the store is one word, over the effect that
+-- `dbpl_core` defines, which the machine has too. With range variables and elements by their keys a store has more, and the
+-- effects behind `value_at` and `assigns` do more; the words stay.
 use Rattle.std.specs.Prelude.{◌≡◌, ℕ, zero, suc, ◌+◌, ◌*◌, ℤ, pos, Bool, true, false, not, if◌then◌else◌, List, [], ◌∷◌, length, Option, Some, None, option_map, Result, Ok, Err}
 use Rattle.dbpl_base.specs.declared.place.Place.{Place}
 use Rattle.dbpl_core.specs.Stores as stores

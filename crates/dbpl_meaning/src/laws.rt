@@ -24,8 +24,8 @@ pub fn meaning_is_steady()
 {}
 
 /// A turn begins only where one is left, and then one less is left and one more work is done. Each loop of a program is its
-/// test, and where that says so a turn and the loop again. A run has no more turns left than it was given, and those that it
-/// used are no more than its work.
+/// test, and where that says so a turn and the loop again. No phrase leaves more turns than there were, and the turns that a
+/// run used are no more than its work: within n turns at most n calls and turns of loops begin.
 pub fn loops_take_turns()
     ensures none { (doing : Doing (Unit {0})) (state : State) → state.left ≡ 0 → turn doing state ≡ Stops Going state }
     ensures one { (doing : Doing (Unit {0})) (state : State) (left : ℕ) → state.left ≡ suc left → turn doing state ≡ doing (record state { left = left; work = state.work + 1 }) }
@@ -33,6 +33,8 @@ pub fn loops_take_turns()
     ensures repeat_unrolls { (program : AnyProgram) (room : ℕ) (body : List (StmtOf Expr)) (e : Expr) (again : Bool) → Unrolls gives (round_until program (calls_at program room) (does program (calls_at program room)) body e) again }
     ensures loop_unrolls { (program : AnyProgram) (room : ℕ) (body : List (StmtOf Expr)) → Unrolls (λ before. gives true) (round (does program (calls_at program room)) body) (tt {0}) }
     ensures for_unrolls { (program : AnyProgram) (room : ℕ) (control : CoreControlOf Expr) (last by : ℤ) (body : List (StmtOf Expr)) (n : ℤ) → Unrolls (λ n. gives (goes_on_to last by n)) (round_with program (calls_at program room) (does program (calls_at program room)) control by body) n }
+    ensures left_by_expressions { (program : AnyProgram) (room : ℕ) (e : Expr) (state : State) → (state_in (value_of program (calls_at program room) e state)).left ≤ state.left }
+    ensures left_by_statements { (program : AnyProgram) (room : ℕ) (s : StmtOf Expr) (state : State) → (state_in (does program (calls_at program room) s state)).left ≤ state.left }
     ensures left { (program : AnyProgram) (database : List Bound) (input : List ℕ) (turns : ℕ) → (state_in (runs program database input turns)).left ≤ turns }
     ensures paid { (program : AnyProgram) (database : List Bound) (input : List ℕ) (turns : ℕ) → turns ≤ (state_in (runs program database input turns)).left + (state_in (runs program database input turns)).work }
 {}

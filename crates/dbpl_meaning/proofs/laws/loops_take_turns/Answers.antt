@@ -1,6 +1,7 @@
 -- By cases on the turns left, and by the law of each phrase.
 use Rattle.dbpl_meaning.proofs.Loops.{for-unrolls, loop-unrolls, repeat-unrolls, while-unrolls}
 use Rattle.dbpl_meaning.proofs.Steady.{turn-none, turn-one}
+use Rattle.dbpl_meaning.proofs.Trees.{steady_calls, steady_does_of, steady_value_of}
 use Rattle.dbpl_meaning.proofs.Whole.{runs-fewer, runs-paid}
 use Rattle.dbpl_meaning.proofs.laws.loops_take_turns.Goals as goal
 
@@ -21,6 +22,14 @@ returns-clause-loop_unrolls c = loop-unrolls
 
 pub returns-clause-for_unrolls : goal.returns-clause-for_unrolls
 returns-clause-for_unrolls c = for-unrolls
+
+pub returns-clause-left_by_expressions : goal.returns-clause-left_by_expressions
+returns-clause-left_by_expressions c = λ program room e state.
+    (steady_value_of program _ (steady_calls program room) e).keeps.fewer state
+
+pub returns-clause-left_by_statements : goal.returns-clause-left_by_statements
+returns-clause-left_by_statements c = λ program room s state.
+    (steady_does_of program _ (steady_calls program room) s).keeps.fewer state
 
 pub returns-clause-left : goal.returns-clause-left
 returns-clause-left c = runs-fewer
