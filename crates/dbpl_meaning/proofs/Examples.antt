@@ -40,10 +40,10 @@ use Rattle.dbpl_meaning.specs.InOut.{characters_of}
 use Rattle.dbpl_meaning.specs.Expressions.{Calls, argument, characters, led_to, value_of}
 use Rattle.dbpl_meaning.specs.Meaning.{Ended, Going, Outcome, Trapped, begun, calls_at, limit, meaning, named_does, outcome_of, runs, without_value}
 use Rattle.dbpl_meaning.specs.State.{Doing, Done, State, Stops}
-use Rattle.dbpl_meaning.specs.Statements.{carried_host, condition, does, number_in_host, of, round_with, row}
+use Rattle.dbpl_meaning.specs.Statements.{carried_host, condition, does, is_constant_level, number_in_host, number_of_case, of, round_with, row}
 use Rattle.dbpl_meaning.specs.Numbers.{in_host, is_related, wide}
 use Rattle.dbpl_meaning.specs.State as phrase
-use Rattle.dbpl_meaning.specs.Words.{◌>>=◌, AtEnd, assigns, block, closes_frame, each_with, gives, in_frame, looks, nothing, number_of_type, of_type, opens_frame, replaces, spend, stops, turn, up_to_return, value_at, variable_at, writes}
+use Rattle.dbpl_meaning.specs.Words.{◌>>=◌, AtEnd, assigns, block, closes_frame, each_with, gives, in_frame, looks, nothing, of_type, opens_frame, replaces, spend, stops, turn, up_to_return, value_at, variable_at, writes}
 use Rattle.dbpl_value.proofs.ValuesLemmas.{is_of-out}
 use Rattle.dbpl_value.proofs.TypeParts.{by_parts-out}
 use Rattle.dbpl_value.specs.Types.{is_in, range_of}
@@ -378,6 +378,14 @@ endless-comes =
     (turn-again _ _ _ _ _ _ _ _ _ (true-runs 1 11 store) (turn-runs _ _ 0 _ refl (empty-runs all calls 0 13 store))
     (turn-cut _ _ _ _ _ _ (true-runs 0 14 store) refl))))))))
 
+-- the expression of a CASE, a constant with this number
+pub case-runs :
+    (program : Program) (calls : Calls) (host : DbType) (x : CoreExpr-F CoreExpr) (n : ℤ) (state between : State) →
+    is_constant_level x ≡ true → value_of program calls (roll-CoreExpr x) state ≡ Done (value.Num n) between →
+    number_of_case program calls host (roll-CoreExpr x) state ≡ Done n between
+case-runs program calls host x n state between constant is =
+    rw (out-roll-CoreExpr x, constant) (then _ _ _ _ _ _ is (number-runs n between))
+
 -- ---- CASE 3 OF 1: | 2: END
 
 -- a body that traps
@@ -412,9 +420,8 @@ unlabelled-comes =
     (stopped (does all calls (roll-CoreStmtOf CoreExpr (stmts.Case word_case (literal 3) kinds.Card (label 1 ∷ label 2 ∷ []) None)))
     (λ _. nothing) _ _ _
     (row-runs all calls (stmts.Case word_case (literal 3) kinds.Card (label 1 ∷ label 2 ∷ []) None) _ _
-    (then (number_in_host all calls kinds.Card (literal 3)) _ (state_with 99 2 store) (state_with 99 3 store) (pos 3) _
-    (then (value_of all calls (literal 3)) (number_of_type kinds.Card) _ _ _ _ (number_text-runs all calls here (pos 3) _)
-    (number_of_card-runs (pos 3) _ refl))
+    (then (number_of_case all calls kinds.Card (literal 3)) _ (state_with 99 2 store) (state_with 99 3 store) (pos 3) _
+    (case-runs all calls kinds.Card (exprs.Number here (pos 3)) (pos 3) _ _ refl (number_text-runs all calls here (pos 3) _))
     refl)))
 
 -- ---- FOR c := 1 TO 3 DO END

@@ -22,7 +22,7 @@ use Rattle.dbpl_meaning.specs.Expressions.{Calls, Meaning, argument, called, cel
 use Rattle.dbpl_meaning.specs.InOut.{Referred}
 use Rattle.dbpl_meaning.specs.State.{Doing}
 use Rattle.dbpl_meaning.specs.Statements as statements
-use Rattle.dbpl_meaning.specs.Statements.{carried_host, condition, control_gets, does, does_level, first_labelled, first_true, goes_on_to, is_labelled, number_in_host, one_without, or_else, phrases_of_by, round, round_until, round_with, row}
+use Rattle.dbpl_meaning.specs.Statements.{carried_host, condition, control_gets, does, does_level, first_labelled, first_true, goes_on_to, is_labelled, number_in_host, number_of_case, one_without, or_else, phrases_of_by, round, round_until, round_with, row}
 use Rattle.dbpl_meaning.specs.Words.{◌>>=◌, ◌>>◌, block, each, each_with, gives, loops, nothing, value_at, spend, there, traps, up_to_exit}
 use Rattle.dbpl_value.specs.declared.db_type.DbType.{out-DbType}
 use Rattle.dbpl_value.specs.declared.param.Param.{Param}
@@ -182,7 +182,7 @@ module _ (program : Program) (calls : Calls) {S T : Type 0} (doing : T → Doing
   row-map (stmts.Count place direction designator kind by) = refl
   row-map (stmts.If place arms otherwise) = arms-map arms _ _ (else-map nothing otherwise)
   row-map (stmts.Case place e host branches otherwise) =
-      λ i. number_in_host program calls host e >>= (λ n. branches-map n branches _ _ (else-map (traps 5 place) otherwise) i)
+      λ i. number_of_case program calls host e >>= (λ n. branches-map n branches _ _ (else-map (traps 5 place) otherwise) i)
   row-map (stmts.While place e body) =
       λ i. loops (λ before. condition program calls e) (λ before. block-map doing f body i) (tt {0})
   row-map (stmts.Repeat place body e) =

@@ -1,18 +1,22 @@
 -- A loop is its test, and where that says so a turn and the loop again: that turns are counted is seen in nothing else. It
 -- needs that test and turn have no more turns left afterwards, as all phrases of a program do.
-use Rattle.std.proofs.Common.{◌≡◌, ◌<◌, ◌≤◌, ℕ, zero, suc, ℤ, Bool, true, false, List, ap, arith, if◌then◌else◌, refl, sym}
+use Rattle.std.proofs.Common.{◌≡◌, ◌<◌, ◌≤◌, ℕ, zero, suc, ℤ, Bool, true, false, List, Option, ap, arith, if◌then◌else◌, refl, sym, ◌∙◌}
 use Rattle.dbpl_core.specs.declared.control_of.CoreControlOf.{CoreControlOf}
 use Rattle.dbpl_core.specs.declared.expr.CoreExpr.{CoreExpr}
 use Rattle.dbpl_core.specs.declared.program.Program.{Program}
 use Rattle.dbpl_core.specs.declared.stmt.CoreStmtOf.{CoreStmtOf}
+use Rattle.dbpl_core.specs.declared.stmt.CoreStmtOf.TheOpen as stmts
+use Rattle.dbpl_base.specs.declared.place.Place.{Place}
 use Rattle.dbpl_meaning.proofs.Goes.{Keeps}
+use Rattle.dbpl_meaning.proofs.Levels.{does-roll}
+use Rattle.dbpl_meaning.specs.Loops.{IsFor, IsLoop, IsRepeat, IsWhile, repeated}
 use Rattle.dbpl_meaning.proofs.Rows.{AreSteady, steady_condition, steady_round, steady_round_until, steady_round_with}
 use Rattle.dbpl_meaning.proofs.Steady.{IsSteady, steady_gives, turn-less}
 use Rattle.dbpl_meaning.proofs.Trees.{steady_calls, steady_does_of, steady_value_of}
 use Rattle.dbpl_meaning.specs.Expressions.{Calls, value_of}
 use Rattle.dbpl_meaning.specs.Meaning.{calls_at}
 use Rattle.dbpl_meaning.specs.State.{Doing, Done, Ran, State, Stops, state_in}
-use Rattle.dbpl_meaning.specs.Statements.{condition, does, goes_on_to, round, round_until, round_with}
+use Rattle.dbpl_meaning.specs.Statements.{condition, does, goes_on_to, one_without, round, round_until, round_with}
 use Rattle.dbpl_meaning.specs.Words.{◌>>=◌, Unrolls, gives, go_on, loops, nothing, turn, turn_with, turns}
 
 -- what comes next is asked only of states in which the phrase is done
@@ -102,3 +106,50 @@ module _ (program : Program) (room : ℕ) where
   for-unrolls control last by body n =
       loops-unrolled _ _ (λ n. (steady_gives _).keeps)
       (λ n. (steady_round_with program calls ready expr statement stmt control by body n).keeps) n
+
+  -- ---- the statements themselves
+
+  -- what the test says without looking is done at once
+  gives-then : {A B : Type 0} (a : A) (next : A → Doing B) → (gives a >>= next) ≡ next a
+  unfolding ◌>>=◌ gives
+  gives-then a next = refl
+
+  pub is-while : (place : Place) (e : CoreExpr) (body : List Stmt) → IsWhile program calls place e body
+  is-while place e body = record {
+    loop = loops (λ before. condition program calls e) (round statement body) (tt {0});
+    begins = does-roll program calls (stmts.While place e body);
+    unrolls = while-unrolls e body;
+  }
+
+  abbrev repeating : List Stmt → CoreExpr → Bool → Doing (Unit {0})
+  repeating body e again = loops gives (round_until program calls statement body e) again
+
+  again-repeating :
+      (body : List Stmt) (e : CoreExpr) (again : Bool) → repeating body e again ≡ (if again then repeating body e true else nothing)
+  again-repeating body e true = refl
+  again-repeating body e false = repeat-unrolls body e false ∙ gives-then false _
+
+  pub is-repeat : (place : Place) (body : List Stmt) (e : CoreExpr) → IsRepeat program calls place body e
+  is-repeat place body e = record {
+    loop = repeating body e true;
+    begins = does-roll program calls (stmts.Repeat place body e);
+    unrolls =
+        repeat-unrolls body e true ∙ gives-then true _ ∙
+        (λ i. turn (repeated program calls body e) >>= (λ again. again-repeating body e again i));
+  }
+
+  pub is-loop : (place : Place) (body : List Stmt) → IsLoop program calls place body
+  is-loop place body = record {
+    loop = loops (λ before. gives true) (round statement body) (tt {0});
+    begins = does-roll program calls (stmts.Loop place body);
+    unrolls = loop-unrolls body ∙ gives-then true _;
+  }
+
+  pub is-for :
+      (place : Place) (control : CoreControlOf CoreExpr) (from to : CoreExpr) (by : Option ℤ) (body : List Stmt) →
+      IsFor program calls place control from to by body
+  is-for place control from to by body = record {
+    loop = λ last n. loops (λ n. gives (goes_on_to last (one_without by) n)) (round_with program calls statement control (one_without by) body) n;
+    begins = does-roll program calls (stmts.For place control from to by body);
+    unrolls = λ last n. for-unrolls control last (one_without by) body n ∙ gives-then (goes_on_to last (one_without by) n) _;
+  }

@@ -42,7 +42,7 @@ use Rattle.dbpl_meaning.specs.InOut.{Given, Referred, Valued, performs, reads_in
 use Rattle.dbpl_meaning.specs.Numbers.{compared, divided, exact, fitted, in_host, reckoned, signed, standard_number, within}
 use Rattle.dbpl_meaning.specs.Reading.{front_of, number_found}
 use Rattle.dbpl_meaning.specs.State.{Doing}
-use Rattle.dbpl_meaning.specs.Statements.{amount, condition, control_gets, counted, does_level, first_labelled, first_true, is_labelled, number_in_host, or_else, returned, round, round_until, round_with, row, without_result}
+use Rattle.dbpl_meaning.specs.Statements.{amount, condition, control_gets, counted, does_level, first_labelled, first_true, is_constant, is_labelled, number_in_host, number_of_case, or_else, returned, round, round_until, round_with, row, without_result}
 use Rattle.dbpl_meaning.specs.Words.{traps}
 use Rattle.dbpl_value.specs.declared.db_type.DbType.{DbType, DbType-F, out-DbType}
 use Rattle.dbpl_value.specs.declared.db_type.DbType.TheOpen as kinds
@@ -245,6 +245,10 @@ module _ (program : Program) (calls : Calls) (steady : AreSteady calls)
   steady_number_in_host : (host : DbType) (e : CoreExpr) → IsSteady (number_in_host program calls host e)
   steady_number_in_host host e = steady_bind _ _ (inner e) (λ v. steady_number_of_type host v)
 
+  steady_number_of_case : (host : DbType) (e : CoreExpr) → IsSteady (number_of_case program calls host e)
+  steady_number_of_case host e =
+      steady_bind _ _ (inner e) (λ v. steady_if (is_constant e) _ _ (steady_number v) (steady_number_of_type host v))
+
   steady_amount : (e : Option CoreExpr) → IsSteady (amount program calls e)
   steady_amount None = steady_gives _
   steady_amount (Some e) = steady_bind _ _ (inner e) (λ v. steady_number v)
@@ -319,7 +323,7 @@ module _ (program : Program) (calls : Calls) (steady : AreSteady calls)
         steady_bind _ _ (steady_fitted kind place sum) (λ fits. steady_assigns reference (value.Num fits)))))))
     steady_row (stmts.If place arms otherwise) = steady_first_true arms _ (steady_or_else _ otherwise steady_nothing)
     steady_row (stmts.Case place e host branches otherwise) =
-        steady_bind _ _ (steady_number_in_host host e) (λ n.
+        steady_bind _ _ (steady_number_of_case host e) (λ n.
         steady_first_labelled n branches _ (steady_or_else _ otherwise (steady_stops _)))
     steady_row (stmts.While place e body) =
         steady_loops _ _ (λ before. steady_condition e) (steady_round body) (tt {0})

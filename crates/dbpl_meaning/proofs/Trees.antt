@@ -1,6 +1,7 @@
 -- The meaning of each expression and each statement is steady, by induction on the trees, where the calls are that they may
 -- begin; and these are, by induction on the number of those that may still be open.
-use Rattle.std.proofs.Common.{◌≡◌, ℕ, zero, suc, List, [], ◌∷◌, Option, Some, None, refl, subst}
+use Rattle.std.proofs.Common.{◌≡◌, ◌-◌, ℕ, zero, suc, List, [], ◌∷◌, Option, Some, None, arith, refl, subst}
+use Rattle.std.specs.Prelude.{slice_get}
 use Rattle.dbpl_base.specs.declared.place.Place.{Place}
 use Rattle.dbpl_core.specs.declared.cell.Cell.{Cell}
 use Rattle.dbpl_core.specs.declared.expr.CoreExpr.{CoreExpr, CoreExpr-F, ind-CoreExpr}
@@ -12,10 +13,11 @@ use Rattle.dbpl_meaning.proofs.Levels.{does-map, does-roll, value-map, value_of-
 use Rattle.dbpl_meaning.proofs.Rows.{AreSteady, steady_does, steady_value}
 use Rattle.dbpl_meaning.proofs.Steady.{IsSteady, steady_bind, steady_block, steady_gives, steady_in_frame, steady_nothing, steady_of_type, steady_stops, steady_there, steady_turn, steady_up_to_return}
 use Rattle.dbpl_meaning.specs.Expressions.{Calls, meaning_of, value_level, value_of}
-use Rattle.dbpl_meaning.specs.Meaning.{bodies, body_does, calls_at, named_does, result_of, routine_does, without_value}
+use Rattle.dbpl_meaning.specs.Meaning.{begun, bodies, body_and_then, body_does, calls_at, limit, named_does, result_of, routine_does, runs, without_value}
 use Rattle.dbpl_meaning.specs.State.{Doing}
 use Rattle.dbpl_meaning.specs.Statements.{does, does_level}
-use Rattle.dbpl_meaning.specs.Words.{AtEnd, ByReturn, Leaving, traps, turn}
+use Rattle.dbpl_meaning.specs.Words.{◌>>=◌, AtEnd, ByReturn, Leaving, gives, nothing, traps, turn}
+use Rattle.dbpl_value.specs.declared.bound.Bound.{Bound}
 use Rattle.dbpl_value.specs.declared.db_type.DbType.{DbType}
 
 module _ (program : Program) (calls : Calls) (steady : AreSteady calls) where
@@ -115,6 +117,24 @@ pub one-in_out :
     (program : Program) (room : ℕ) (place : Place) (doing : Doing (Unit {0})) → (calls_at program (suc room)).in_out place doing ≡ turn doing
 unfolding calls_at
 one-in_out program room place doing = refl
+
+-- a run is the bodies in their order
+pub whole-bodies :
+    (program : Program) (database : List Bound) (input : List ℕ) (turns : ℕ) →
+    runs program database input turns ≡ bodies program program.order (begun program database input turns)
+unfolding runs
+whole-bodies program database input turns = refl
+
+pub no-body : (program : Program) → bodies program [] ≡ nothing
+no-body program = refl
+
+-- a body is a turn whose statements may open one call less than the limit
+pub one-body :
+    (program : Program) (room number : ℕ) (numbers : List ℕ) (unit : CoreUnit) → limit ≡ suc room →
+    slice_get program.units number ≡ Some unit → bodies program (number ∷ numbers) ≡ body_and_then program room unit numbers
+unfolding ◌>>=◌ gives
+one-body program room number numbers unit less has =
+    let room_is : limit - 1 ≡ room = omega (arith, less) in rw (has, room_is) refl
 
 pub steady_bodies : (program : Program) (numbers : List ℕ) → IsSteady (bodies program numbers)
 steady_bodies program [] = steady_nothing

@@ -1,4 +1,4 @@
--- What an expression means: one row for each form. A row value_at what stands in it by the field `value` of its meaning, so a
+-- What an expression means: one row for each form. A row reads what stands in it by the field `value` of its meaning, so a
 -- further table over the same forms is a further field. Roots and steps that come with sets and persistent variables are
 -- rows of `root_of` and `step_of`.
 use Rattle.std.specs.Prelude.{ℕ, ◌-◌, pos, ◌-ℤ◌, nat_abs, Bool, false, true, not, if◌then◌else◌, List, [], ◌++◌, map, length, replicate, Option, Some, None}

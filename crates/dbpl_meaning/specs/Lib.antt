@@ -1,6 +1,7 @@
 pub mod Declared
 pub mod Expressions
 pub mod InOut
+pub mod Loops
 pub mod Meaning
 pub mod Numbers
 pub mod Reading

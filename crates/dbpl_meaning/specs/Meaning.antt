@@ -83,6 +83,10 @@ bodies program (number ∷ numbers) = do
   turn (body_does program (calls_at program (limit - 1)) unit)
   bodies program numbers
 
+-- The body of this unit, a turn whose statements may open so many calls more, and then the bodies with these numbers.
+abbrev pub body_and_then : Program → ℕ → CoreUnit → List ℕ → Doing (Unit {0})
+body_and_then program room unit numbers = turn (body_does program (calls_at program room) unit) >> bodies program numbers
+
 abbrev pub begun : Program → List Bound → List ℕ → ℕ → State
 begun program database input turns = record {
   left = turns;
@@ -134,6 +138,6 @@ abbrev pub outcome_of : Ran (Unit {0}) → Outcome
 outcome_of (Done done state) = outcome_at Ended state
 outcome_of (Stops why state) = outcome_at (standing why) state
 
--- THE meaning: what a program comes to over this database and this input within so many turns
+-- THE meaning: what a program comes to over this database and this input, a list of bytes, within so many turns
 unfoldable pub meaning : Program → List Bound → List ℕ → ℕ → Outcome
 meaning program database input turns = outcome_of (runs program database input turns)

@@ -19,7 +19,8 @@ pub data Stop : Type 0 where
   -- what no accepted program does: a name, a part or a value isn't there, or a value isn't of the type that is asked for
   Wrong : Stop
 
--- The turns that may still begin, the work that is done so far, and all else that a run has.
+-- The turns that may still begin, the work that is done so far, and all else that a run has. The input in the store is a list
+-- of bytes, numbers below 256.
 pub record State : Type 0 where
   pub left : ℕ
   pub work : ℕ

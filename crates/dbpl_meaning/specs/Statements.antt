@@ -1,5 +1,5 @@
--- What a statement means: one row for each form. Each statement is one work, which stands in front of all rows. ABORT, FOR EACH
--- and the operators on relations are rows more.
+-- What a statement means: one row for each form. A statement is one work as it begins, also where it stops later; this stands
+-- in front of all rows. ABORT, FOR EACH and the operators on relations are rows more.
 use Rattle.std.specs.Prelude.{ℕ, ℤ, pos, negsuc, ◌+ℤ◌, ◌-ℤ◌, int_le, Bool, false, true, not, if◌then◌else◌, List, [], ◌∷◌, Option, Some, None}
 use Rattle.dbpl_core.specs.declared.arm_of.CoreArmOf.{CoreArmOf}
 use Rattle.dbpl_core.specs.declared.branch_of.CoreBranchOf.{CoreBranchOf}
@@ -68,6 +68,16 @@ carried_level constant (exprs.Packed place kind parts) = kind
 abbrev pub carried_host : DbType → CoreExpr → DbType
 carried_host constant e = carried_level constant (out-CoreExpr e)
 
+abbrev pub is_constant_level : {E : Type 0} → CoreExpr-F E → Bool
+is_constant_level (exprs.Number place n) = true
+is_constant_level (exprs.Signed place sign None e) = true
+is_constant_level (exprs.Arithmetic place at operator None left right) = true
+is_constant_level _ = false
+
+-- whether it is a constant, which is exact: a whole one is in either host
+abbrev pub is_constant : CoreExpr → Bool
+is_constant e = is_constant_level (out-CoreExpr e)
+
 -- ---- counting
 
 abbrev pub counted : Direction → ℤ → ℤ → ℤ
@@ -127,11 +137,17 @@ module _ (program : Program) (calls : Calls) where
     v ← (of e).value
     truth v
 
-  -- the number of a bound of FOR or of the expression of CASE
+  -- the number of a bound of FOR
   abbrev pub number_in_host : DbType → CoreExpr → Doing ℤ
   number_in_host host e = do
     v ← (of e).value
     number_of_type host v
+
+  -- the number of the expression of CASE: a constant is asked for no host
+  abbrev pub number_of_case : DbType → CoreExpr → Doing ℤ
+  number_of_case host e = do
+    v ← (of e).value
+    if is_constant e then number v else number_of_type host v
 
   abbrev pub amount : Option CoreExpr → Doing ℤ
   amount None = gives (pos 1)
@@ -198,7 +214,7 @@ module _ (program : Program) (calls : Calls) where
       assigns reference (value.Num fits)
     row (stmts.If place arms otherwise) = first_true arms (or_else does nothing otherwise)
     row (stmts.Case place e host branches otherwise) = do
-      n ← number_in_host host e
+      n ← number_of_case host e
       first_labelled does n branches (or_else does (traps 5 place) otherwise)
     row (stmts.While place e body) = loops (λ before. condition e) (round does body) (tt {0})
     row (stmts.Repeat place body e) = loops gives (round_until body e) true

@@ -1,5 +1,5 @@
 -- By cases on the turns left, and by the law of each phrase.
-use Rattle.dbpl_meaning.proofs.Loops.{for-unrolls, loop-unrolls, repeat-unrolls, while-unrolls}
+use Rattle.dbpl_meaning.proofs.Loops.{for-unrolls, is-for, is-loop, is-repeat, is-while, loop-unrolls, repeat-unrolls, while-unrolls}
 use Rattle.dbpl_meaning.proofs.Steady.{turn-none, turn-one}
 use Rattle.dbpl_meaning.proofs.Trees.{steady_calls, steady_does_of, steady_value_of}
 use Rattle.dbpl_meaning.proofs.Whole.{runs-fewer, runs-paid}
@@ -22,6 +22,18 @@ returns-clause-loop_unrolls c = loop-unrolls
 
 pub returns-clause-for_unrolls : goal.returns-clause-for_unrolls
 returns-clause-for_unrolls c = for-unrolls
+
+pub returns-clause-while_turns : goal.returns-clause-while_turns
+returns-clause-while_turns c = is-while
+
+pub returns-clause-repeat_turns : goal.returns-clause-repeat_turns
+returns-clause-repeat_turns c = is-repeat
+
+pub returns-clause-loop_turns : goal.returns-clause-loop_turns
+returns-clause-loop_turns c = is-loop
+
+pub returns-clause-for_turns : goal.returns-clause-for_turns
+returns-clause-for_turns c = is-for
 
 pub returns-clause-left_by_expressions : goal.returns-clause-left_by_expressions
 returns-clause-left_by_expressions c = λ program room e state.
