@@ -88,7 +88,7 @@ in_out-open program room = refl
 
 -- ---- WriteCard(7, 3)
 
-abbrev width : DbType
+abbrev pub width : DbType
 width = kinds.Sub kinds.Card (pos 0) (pos 1000)
 
 abbrev seven : CoreExpr-F CoreExpr
@@ -110,7 +110,7 @@ cards = record { least = pos 0; greatest = pos 4294967295 }
 pub card-range : range_of kinds.Card ≡ Some cards
 card-range = rw kinds.outs-Card refl
 
-width-range : range_of width ≡ Some (record { least = pos 0; greatest = pos 1000 })
+pub width-range : range_of width ≡ Some (record { least = pos 0; greatest = pos 1000 })
 width-range = rw (kinds.outs-Sub kinds.Card (pos 0) (pos 1000)) refl
 
 abbrev pub opened : Program → List ℕ → ℕ → State
@@ -218,26 +218,26 @@ store_of n = record {
 pub start-card : start_value_of kinds.Card ≡ value.Num (pos 0)
 start-card = by_parts-out Value start_level kinds.Card ∙ rw kinds.outs-Card refl
 
-c_begins : (body : List Statement) (turns : ℕ) → opened (program_of c_declared [] body) [] turns ≡ state_with turns 1 (store_of 0)
+pub c_begins : (body : List Statement) (turns : ℕ) → opened (program_of c_declared [] body) [] turns ≡ state_with turns 1 (store_of 0)
 unfolding stores.opens
 c_begins body turns = rw start-card refl
 
 module _ (body : List Statement) where
-  abbrev program : Program
+  abbrev pub program : Program
   program = program_of c_declared [] body
 
-  abbrev calls : Calls
+  abbrev pub calls : Calls
   calls = calls_at program 9999
 
-  c-led : (state : State) → led_to program (of program calls) c_named state ≡ Done (global_reference 0) (after 1 state)
+  pub c-led : (state : State) → led_to program (of program calls) c_named state ≡ Done (global_reference 0) (after 1 state)
   unfolding ◌>>=◌ spend gives
   c-led state = refl
 
-  c-reads : (left work n : ℕ) → value_of program calls c_read (state_with left work (store_of n)) ≡ Done (value.Num (pos n)) (state_with left (work + 1) (store_of n))
+  pub c-reads : (left work n : ℕ) → value_of program calls c_read (state_with left work (store_of n)) ≡ Done (value.Num (pos n)) (state_with left (work + 1) (store_of n))
   unfolding value_at looks stores.reads
   c-reads left work n = value-runs program calls (exprs.Read c_named kinds.Card) _ _ (then _ _ _ _ _ _ (c-led _) refl)
 
-  c-gets :
+  pub c-gets :
       (left work n m : ℕ) → is_in cards (pos m) ≡ true →
       assigns (global_reference 0) (value.Num (pos m)) (state_with left work (store_of n)) ≡ Done (tt {0}) (state_with left work (store_of m))
   unfolding assigns looks replaces stores.puts
@@ -356,7 +356,7 @@ true-runs :
     ≡ Done true (state_with left (work + 1) store)
 true-runs left work store = then _ _ _ _ _ _ (number_text-runs _ _ here (pos 1) _) (truth-runs true _)
 
-empty-runs :
+pub empty-runs :
     (program : Program) (calls : Calls) (left work : ℕ) (store : Store) →
     block (does program calls) (empty ∷ []) (state_with left work store) ≡ Done (tt {0}) (state_with left (work + 1) store)
 empty-runs program calls left work store = one-runs program calls (stmts.Empty here) _ _ (gives-runs _ _)
@@ -386,6 +386,15 @@ pub case-runs :
 case-runs program calls host x n state between constant is =
     rw (out-roll-CoreExpr x, constant) (then _ _ _ _ _ _ is (number-runs n between))
 
+-- a body that HALT ends
+pub halt-comes :
+    (program : Program) (doing : Doing (Unit {0})) (input : List ℕ) (turns : ℕ) (state : State) →
+    doing (opened program input turns) ≡ Stops phrase.Ended state →
+    comes_to program doing input (suc turns)
+    ≡ record { events = state.store.events; stands = Ended; input = state.store.input; work = state.work }
+unfolding comes_to ◌>>=◌ turn up_to_return opens_frame
+halt-comes program doing input turns state is = rw is refl
+
 -- ---- CASE 3 OF 1: | 2: END
 
 -- a body that traps
@@ -400,7 +409,7 @@ trap-comes program doing input turns trap state is = rw is refl
 abbrev pub word_case : Place
 word_case = record { unit = 0; line = 1; col = 17 }
 
-abbrev label : ℕ → CoreBranchOf Statement
+abbrev pub label : ℕ → CoreBranchOf Statement
 label n = record { labels = record { least = pos n; greatest = pos n } ∷ []; statements = empty ∷ [] }
 
 abbrev unlabelled : List Statement
@@ -426,13 +435,13 @@ unlabelled-comes =
 
 -- ---- FOR c := 1 TO 3 DO END
 
-abbrev control : CoreControlOf CoreExpr
+abbrev pub control : CoreControlOf CoreExpr
 control = record { variable = c_named; kind = kinds.Card; host = kinds.Card }
 
 abbrev counting : List Statement
 counting = roll-CoreStmtOf CoreExpr (stmts.For here control (literal 1) (literal 3) None (empty ∷ [])) ∷ []
 
-literal-host : (n : ℕ) → carried_host kinds.Card (literal n) ≡ kinds.Card
+pub literal-host : (n : ℕ) → carried_host kinds.Card (literal n) ≡ kinds.Card
 literal-host n = rw (out-roll-CoreExpr (exprs.Number here (pos n))) refl
 
 bound-runs :

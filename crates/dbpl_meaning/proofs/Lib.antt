@@ -1,9 +1,14 @@
 pub mod CallExamples
+pub mod Calling
+pub mod CaseExamples
 pub mod Examples
 pub mod Goes
 pub mod Leaving
+pub mod LeavingExamples
 pub mod Levels
 pub mod Loops
+pub mod NumberExamples
+pub mod PrintingExamples
 pub mod ReadingExamples
 pub mod Rows
 pub mod Running

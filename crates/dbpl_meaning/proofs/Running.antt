@@ -158,6 +158,13 @@ pub turn-cut :
 unfolding ◌>>=◌ turns
 turn-cut most goes round a state between test none = rw (test, turn-none (round a) between none) refl
 
+-- a turn that stops
+pub turn-stops :
+    {A : Type 0} (most : ℕ) (goes : A → Doing Bool) (round : A → Doing A) (a : A) (state between later : State) (stop : Stop) →
+    goes a state ≡ Done true between → turn (round a) between ≡ Stops stop later → turns (suc most) goes round a state ≡ Stops stop later
+unfolding ◌>>=◌ turns
+turn-stops most goes round a state between later stop test body = rw (test, body) refl
+
 pub loops-runs :
     {A : Type 0} (goes : A → Doing Bool) (round : A → Doing A) (a : A) (state : State) (ran : Ran (Unit {0})) →
     turns (suc state.left) goes round a state ≡ ran → loops goes round a state ≡ ran
