@@ -279,7 +279,7 @@ sum-comes = of-body _ _ _ _ _ ∙ ended-comes (program sum_assigned) _ [] 99 _ s
 abbrev less : CoreExpr
 less = roll-CoreExpr (exprs.Compared here here relations.Less comparisons.Numbers c_read (literal 3))
 
-abbrev inc : Statement
+abbrev pub inc : Statement
 inc = roll-CoreStmtOf CoreExpr (stmts.Count here directions.Up c_named kinds.Card None)
 
 abbrev counted_up : List Statement
@@ -302,7 +302,7 @@ module _ (body : List Statement) where
       (then _ _ _ _ _ _ (compared-runs relations.Less (pos n) (pos 3) _) (gives-runs _ _))))))
       (truth-runs (is_less n) _)
 
-  inc-runs :
+  pub inc-runs :
       (left work n : ℕ) → is_in wide (pos (n + 1)) ≡ true → is_in cards (pos (n + 1)) ≡ true →
       block (does (program body) (calls body)) (inc ∷ []) (state_with left work (store_of n))
       ≡ Done (tt {0}) (state_with left (work + 1 + 1) (store_of (n + 1)))

@@ -2,6 +2,7 @@ pub mod CallExamples
 pub mod Calling
 pub mod CaseExamples
 pub mod Examples
+pub mod FitExamples
 pub mod Goes
 pub mod Leaving
 pub mod LeavingExamples
@@ -10,6 +11,7 @@ pub mod Loops
 pub mod NumberExamples
 pub mod PrintingExamples
 pub mod ReadingExamples
+pub mod RepeatExamples
 pub mod Rows
 pub mod Running
 pub mod Steady

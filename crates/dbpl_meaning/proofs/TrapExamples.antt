@@ -35,7 +35,7 @@ use Rattle.dbpl_value.specs.declared.value.Value.{Value}
 use Rattle.dbpl_value.specs.declared.value.Value.TheVariants as value
 
 -- where the trap stands
-abbrev q : Place
+abbrev pub q : Place
 q = record { unit = 0; line = 1; col = 9 }
 
 -- a body of two statements, of which the second stops
@@ -143,19 +143,19 @@ indexing-comes =
 
 -- ---- i := -2147483648; i := -i
 
-abbrev ints : Range
+abbrev pub ints : Range
 ints = record { least = negsuc 2147483647; greatest = pos 2147483647 }
 
 abbrev least_int : ℤ
 least_int = negsuc 2147483647
 
-int-range : range_of kinds.Int ≡ Some ints
+pub int-range : range_of kinds.Int ≡ Some ints
 int-range = rw kinds.outs-Int refl
 
 int-of : (n : ℤ) → is_of kinds.Int (value.Num n) ≡ is_in ints n
 int-of n = is_of-out kinds.Int (value.Num n) ∙ rw (kinds.outs-Int, value.outs-Num n) refl
 
-of_int-runs : (n : ℤ) (state : State) → is_in ints n ≡ true → of_type kinds.Int (value.Num n) state ≡ Done (value.Num n) state
+pub of_int-runs : (n : ℤ) (state : State) → is_in ints n ≡ true → of_type kinds.Int (value.Num n) state ≡ Done (value.Num n) state
 unfolding gives
 of_int-runs n state lies = rw (int-of n, lies) refl
 
