@@ -3,6 +3,7 @@ pub mod Calling
 pub mod CaseExamples
 pub mod Examples
 pub mod FitExamples
+pub mod FunctionExamples
 pub mod Goes
 pub mod Leaving
 pub mod LeavingExamples

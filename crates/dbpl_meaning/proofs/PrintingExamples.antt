@@ -1,21 +1,24 @@
--- FOR c := 3 TO 1 BY -1 DO WriteCard(c, 0) END, computed from the rows.
-use Rattle.std.proofs.Common.{◌≡◌, ◌+◌, ◌+ℤ◌, ◌∙◌, ℕ, suc, pos, negsuc, true, false, List, [], ◌∷◌, ◌++◌, Some, ap, refl}
+-- What is printed, computed from the rows.
+use Rattle.std.proofs.Common.{◌≡◌, ◌+◌, ◌+ℤ◌, ◌∙◌, ℕ, suc, pos, negsuc, true, false, List, [], ◌∷◌, ◌++◌, Some, None, ap, refl}
 use Rattle.std.specs.Fmt.{digits}
 use Rattle.dbpl_core.specs.Events.{Event, Out}
 use Rattle.dbpl_core.specs.Stores as stores
 use Rattle.dbpl_core.specs.Stores.{Store}
 use Rattle.dbpl_core.specs.declared.argument_of.CoreArgumentOf.TheVariants as arguments
-use Rattle.dbpl_core.specs.declared.expr.CoreExpr.{CoreExpr, roll-CoreExpr}
+use Rattle.dbpl_core.specs.declared.expr.CoreExpr.{CoreExpr, CoreExpr-F, roll-CoreExpr}
 use Rattle.dbpl_core.specs.declared.expr.CoreExpr.TheOpen as exprs
 use Rattle.dbpl_core.specs.declared.in_out_procedure.InOutProcedure.TheVariants as procedures
 use Rattle.dbpl_core.specs.declared.stmt.CoreStmtOf.{CoreStmtOf-F, roll-CoreStmtOf}
 use Rattle.dbpl_core.specs.declared.stmt.CoreStmtOf.TheOpen as stmts
-use Rattle.dbpl_meaning.proofs.Calling.{prints-runs}
-use Rattle.dbpl_meaning.proofs.Examples.{Statement, c-led, c_begins, c_named, c_read, calls, card-range, cards, control, ended-comes, here, in_out-runs, literal, literal-host, of-body, one-runs, opened, program, state_with, store_of, width, width-range}
-use Rattle.dbpl_meaning.proofs.Running.{fits-runs, fitted-runs, gives-runs, loops-runs, number_of_card-runs, number_text-runs, of_card-runs, spend-runs, then, turn-again, turn-ends, turn-runs, value-runs}
-use Rattle.dbpl_meaning.specs.Expressions.{value_of}
+use Rattle.dbpl_meaning.proofs.Calling.{prints-runs, write, write-runs}
+use Rattle.dbpl_core.specs.declared.program.Program.{Program}
+use Rattle.dbpl_core.specs.declared.sign.Sign.TheVariants as signs
+use Rattle.dbpl_meaning.proofs.TrapExamples.{int-range, ints, of_int-runs}
+use Rattle.dbpl_meaning.proofs.Examples.{Statement, empty_store, program_of, c-led, c_begins, c_named, c_read, calls, card-range, cards, control, ended-comes, here, in_out-runs, literal, literal-host, of-body, one-runs, opened, program, state_with, store_of, width, width-range}
+use Rattle.dbpl_meaning.proofs.Running.{exact-runs, number-runs, fits-runs, fitted-runs, gives-runs, loops-runs, number_of_card-runs, number_text-runs, of_card-runs, spend-runs, then, turn-again, turn-ends, turn-runs, value-runs}
+use Rattle.dbpl_meaning.specs.Expressions.{Calls, value_of}
 use Rattle.dbpl_meaning.specs.InOut.{number_text}
-use Rattle.dbpl_meaning.specs.Meaning.{Ended, meaning}
+use Rattle.dbpl_meaning.specs.Meaning.{Ended, calls_at, meaning}
 use Rattle.dbpl_meaning.specs.State.{Done}
 use Rattle.dbpl_meaning.specs.Statements.{carried_host, does, number_in_host, round_with}
 use Rattle.dbpl_meaning.specs.Words.{assigns, block, looks, replaces, value_at, writes}
@@ -23,6 +26,8 @@ use Rattle.dbpl_meaning.specs.Declared.{global_reference}
 use Rattle.dbpl_value.specs.Types.{is_in}
 use Rattle.dbpl_value.specs.declared.db_type.DbType.TheVariants as kinds
 use Rattle.dbpl_value.specs.declared.value.Value.TheVariants as value
+
+-- ---- FOR c := 3 TO 1 BY -1 DO WriteCard(c, 0) END
 
 abbrev c_written : CoreStmtOf-F CoreExpr Statement
 c_written =
@@ -113,3 +118,72 @@ down-does =
 
 pub down-comes : meaning (program down) [] [] 100 ≡ record { events = Out 51 ∷ Out 50 ∷ Out 49 ∷ []; stands = Ended; input = []; work = 47 }
 down-comes = of-body _ _ _ _ _ ∙ ended-comes (program down) _ [] 99 _ down-does
+
+-- ---- Write('x'); WriteLn
+
+abbrev line_written : CoreStmtOf-F CoreExpr Statement
+line_written = stmts.InOut here procedures.WriteLn []
+
+abbrev x_line : Program
+x_line = program_of [] [] (roll-CoreStmtOf CoreExpr (write 120) ∷ roll-CoreStmtOf CoreExpr line_written ∷ [])
+
+pub x_line-comes : meaning x_line [] [] 100 ≡ record { events = Out 120 ∷ Out 10 ∷ []; stands = Ended; input = []; work = 22 }
+unfolding stores.opens stores.says
+x_line-comes =
+    let lines : Calls = calls_at x_line 9999 in
+    let printed : Store = stores.says (120 ∷ []) (empty_store x_line) in
+    of-body _ _ _ _ _ ∙
+    ended-comes x_line _ [] 99 (state_with 97 22 (stores.says (10 ∷ []) printed))
+    (then (does x_line lines (roll-CoreStmtOf CoreExpr (write 120))) _ _ (state_with 98 12 printed) _ _ (write-runs x_line 9998 120 98 1 (empty_store x_line) refl)
+    (one-runs x_line lines line_written _ _
+    (then _ _ _ _ _ _ (gives-runs [] _) (in_out-runs x_line here _ _ _ 97 refl (prints-runs (10 ∷ []) 97 14 printed)))))
+
+-- ---- WriteInt(-4, 4)
+
+abbrev minus_four : CoreExpr-F CoreExpr
+minus_four = exprs.Signed here signs.Minus None (literal 4)
+
+abbrev int_written : CoreStmtOf-F CoreExpr Statement
+int_written =
+    stmts.InOut here procedures.WriteInt
+    (arguments.Value (roll-CoreExpr (exprs.Fitted here kinds.Int (roll-CoreExpr minus_four))) ∷
+    arguments.Value (roll-CoreExpr (exprs.Fitted here width (literal 4))) ∷ [])
+
+abbrev signed : Program
+signed = program_of [] [] (roll-CoreStmtOf CoreExpr int_written ∷ [])
+
+minus_four-runs :
+    (left work : ℕ) (store : Store) →
+    value_of signed (calls_at signed 9999) (roll-CoreExpr minus_four) (state_with left work store) ≡ Done (value.Num (negsuc 3)) (state_with left (work + 1 + 1) store)
+minus_four-runs left work store =
+    value-runs signed (calls_at signed 9999) minus_four _ _
+    (then _ _ _ _ _ _ (spend-runs 1 _)
+    (then _ _ _ _ _ _ (number_text-runs signed (calls_at signed 9999) here (pos 4) _)
+    (then _ _ _ _ _ _ (number-runs (pos 4) _)
+    (then _ _ _ _ _ _ (exact-runs (negsuc 3) _ refl) (gives-runs _ _)))))
+
+minus_four-text : number_text (negsuc 3) 4 ≡ 32 ∷ 32 ∷ 45 ∷ 52 ∷ []
+unfolding digits
+minus_four-text = refl
+
+pub signed-comes :
+    meaning signed [] [] 100 ≡ record { events = Out 32 ∷ Out 32 ∷ Out 45 ∷ Out 52 ∷ []; stands = Ended; input = []; work = 38 }
+unfolding stores.opens stores.says
+signed-comes =
+    let all : Calls = calls_at signed 9999 in
+    let store : Store = empty_store signed in
+    of-body _ _ _ _ _ ∙
+    ended-comes signed _ [] 99 (state_with 98 38 (stores.says (32 ∷ 32 ∷ 45 ∷ 52 ∷ []) store))
+    (one-runs signed all int_written _ _
+    (then _ _ _ _ _ _
+    (then _ _ _ _ _ _
+    (then _ _ _ _ _ _ (fits-runs signed all here kinds.Int ints (roll-CoreExpr minus_four) (negsuc 3) _ _ int-range refl (minus_four-runs 99 2 store)) (gives-runs _ _))
+    (then _ _ _ _ _ _
+    (then _ _ _ _ _ _
+    (then _ _ _ _ _ _ (fits-runs signed all here width _ (literal 4) (pos 4) _ _ width-range refl (number_text-runs signed all here (pos 4) _)) (gives-runs _ _))
+    (then _ _ _ _ _ _ (gives-runs _ _) (gives-runs _ _)))
+    (gives-runs _ _)))
+    (in_out-runs signed here _ _ _ 98 refl
+    (then _ _ _ _ (negsuc 3) _ (then _ _ _ _ _ _ (of_int-runs (negsuc 3) _ refl) (number-runs (negsuc 3) _))
+    (then _ _ _ _ (pos 4) _ (number_of_card-runs (pos 4) _ refl)
+    (ap (λ (bytes : List ℕ). writes bytes (state_with 98 6 store)) minus_four-text ∙ prints-runs (32 ∷ 32 ∷ 45 ∷ 52 ∷ []) 98 6 store))))))
