@@ -10,6 +10,7 @@ pub mod LeavingExamples
 pub mod Levels
 pub mod Loops
 pub mod NumberExamples
+pub mod PartExamples
 pub mod PrintingExamples
 pub mod ReadingExamples
 pub mod RepeatExamples

@@ -1,5 +1,7 @@
--- ReadCard(c) three times on the input `12 x7`, computed from the rows: c is 12, 0 and 7, and Done TRUE, FALSE and TRUE.
-use Rattle.std.proofs.Common.{◌≡◌, ◌+◌, ◌∙◌, ℕ, suc, ℤ, pos, Bool, true, false, List, [], ◌∷◌, Option, ap, refl}
+-- What is read, computed from the rows.
+use Rattle.std.proofs.Common.{◌≡◌, ◌+◌, ◌∙◌, ℕ, suc, ℤ, pos, negsuc, Bool, true, false, List, [], ◌∷◌, Option, ap, refl}
+use Rattle.std.specs.Prelude.{codes}
+use Rattle.dbpl_meaning.proofs.TrapExamples.{i_named, int-range, ints, of_int-runs}
 use Rattle.dbpl_core.specs.Stores as stores
 use Rattle.dbpl_core.specs.Stores.{Store}
 use Rattle.dbpl_core.specs.declared.argument_of.CoreArgumentOf.TheVariants as arguments
@@ -27,6 +29,8 @@ use Rattle.dbpl_value.specs.Values.{is_of, start_level, start_value_of}
 use Rattle.dbpl_value.specs.declared.db_type.DbType.TheVariants as kinds
 use Rattle.dbpl_value.specs.declared.value.Value.{Value}
 use Rattle.dbpl_value.specs.declared.value.Value.TheVariants as value
+
+-- ---- ReadCard(c) three times on the input `12 x7`: c is 12, 0 and 7, and Done TRUE, FALSE and TRUE
 
 abbrev read : CoreStmtOf-F CoreExpr Statement
 read = stmts.InOut here procedures.ReadCard (arguments.Variable c_named ∷ [])
@@ -94,9 +98,9 @@ start-bool = by_parts-out Value start_level kinds.Bool ∙ rw kinds.outs-Bool re
 abbrev text : List ℕ
 text = 49 ∷ 50 ∷ 32 ∷ 120 ∷ 55 ∷ []
 
-reading-begins : opened reading text 99 ≡ state_with 99 1 (store_with 0 false text)
+reading-begins : (input : List ℕ) → opened reading input 99 ≡ state_with 99 1 (store_with 0 false input)
 unfolding stores.opens
-reading-begins = rw (start-card, start-bool) refl
+reading-begins input = rw (start-card, start-bool) refl
 
 first : does reading calls (roll-CoreStmtOf CoreExpr read) (state_with 99 1 (store_with 0 false text)) ≡ Done (tt {0}) (state_with 98 28 (store_with 12 true (120 ∷ 55 ∷ [])))
 unfolding ◌>>=◌ gives takes_byte stores.takes
@@ -113,10 +117,119 @@ third = read-runs 0 7 false true (55 ∷ []) [] 96 39 8 refl refl refl
 -- c is 7 and Done TRUE afterwards, and nothing is left of the input
 pub reading-does : block (does reading calls) reads (opened reading text 99) ≡ Done (tt {0}) (state_with 96 50 (store_with 7 true []))
 reading-does =
-    rw reading-begins
+    rw (reading-begins text)
     (then (does reading calls (roll-CoreStmtOf CoreExpr read)) _ _ _ _ _ first
     (then (does reading calls (roll-CoreStmtOf CoreExpr read)) _ _ _ _ _ second
     (then (does reading calls (roll-CoreStmtOf CoreExpr read)) _ _ _ _ _ third (gives-runs _ _))))
 
 pub reading-comes : meaning reading [] text 100 ≡ record { events = []; stands = Ended; input = []; work = 50 }
 reading-comes = of-body _ _ _ _ _ ∙ ended-comes reading _ text 99 _ reading-does
+
+-- ---- the same on `4294967296 `, which is no CARDINAL but is taken, and at the end of the input
+
+abbrev too_great : List ℕ
+too_great = 52 ∷ 50 ∷ 57 ∷ 52 ∷ 57 ∷ 54 ∷ 55 ∷ 50 ∷ 57 ∷ 54 ∷ 32 ∷ []
+
+great-first : does reading calls (roll-CoreStmtOf CoreExpr read) (state_with 99 1 (store_with 0 false too_great)) ≡ Done (tt {0}) (state_with 98 92 (store_with 0 false []))
+unfolding ◌>>=◌ gives takes_byte stores.takes
+great-first = read-runs 0 0 false false too_great [] 98 1 88 refl refl refl
+
+great-second : does reading calls (roll-CoreStmtOf CoreExpr read) (state_with 98 92 (store_with 0 false [])) ≡ Done (tt {0}) (state_with 97 95 (store_with 0 false []))
+unfolding ◌>>=◌ gives takes_byte stores.takes
+great-second = read-runs 0 0 false false [] [] 97 92 0 refl refl refl
+
+great-third : does reading calls (roll-CoreStmtOf CoreExpr read) (state_with 97 95 (store_with 0 false [])) ≡ Done (tt {0}) (state_with 96 98 (store_with 0 false []))
+unfolding ◌>>=◌ gives takes_byte stores.takes
+great-third = read-runs 0 0 false false [] [] 96 95 0 refl refl refl
+
+pub too_great-does : block (does reading calls) reads (opened reading too_great 99) ≡ Done (tt {0}) (state_with 96 98 (store_with 0 false []))
+too_great-does =
+    rw (reading-begins too_great)
+    (then (does reading calls (roll-CoreStmtOf CoreExpr read)) _ _ _ _ _ great-first
+    (then (does reading calls (roll-CoreStmtOf CoreExpr read)) _ _ _ _ _ great-second
+    (then (does reading calls (roll-CoreStmtOf CoreExpr read)) _ _ _ _ _ great-third (gives-runs _ _))))
+
+pub too_great-comes : meaning reading [] too_great 100 ≡ record { events = []; stands = Ended; input = []; work = 98 }
+too_great-comes = of-body _ _ _ _ _ ∙ ended-comes reading _ too_great 99 _ too_great-does
+
+-- ---- ReadInt(i) on ` -7` and on ` +7`
+
+abbrev int_read : CoreStmtOf-F CoreExpr Statement
+int_read = stmts.InOut here procedures.ReadInt (arguments.Variable i_named ∷ [])
+
+abbrev int_reading : Program
+int_reading = program_of (record { name = codes "i"; kind = kinds.Int } ∷ []) [] (roll-CoreStmtOf CoreExpr int_read ∷ [])
+
+abbrev int_calls : Calls
+int_calls = calls_at int_reading 9999
+
+-- with this value in i, this in Done, and this input left
+abbrev int_store : Value → Bool → List ℕ → Store
+int_store v done input = record {
+  globals = cell.Holds kinds.Int v ∷ cell.Holds kinds.Bool (number_of_bool done) ∷ [];
+  frames = [] ∷ [] ∷ [];
+  database = [];
+  input = input;
+  events = [];
+}
+
+int-into-runs :
+    (v : Value) (n : ℤ) (work : ℕ) (found : Option ℤ) → is_in ints n ≡ true →
+    reads_into (global_reference 1) (global_reference 0) found
+    ≡ (assigns (global_reference 0) (value.Num n) >>= (λ _. assigns (global_reference 1) (number_of_bool true))) →
+    reads_into (global_reference 1) (global_reference 0) found (state_with 98 work (int_store v false []))
+    ≡ Done (tt {0}) (state_with 98 work (int_store (value.Num n) true []))
+unfolding assigns looks replaces stores.puts
+int-into-runs v n work found lies is =
+    ap (λ (doing : Doing (Unit {0})). doing (state_with 98 work (int_store v false []))) is
+    ∙ then _ _ _ (state_with 98 work (int_store (value.Num n) false [])) _ _
+    (then _ _ _ _ _ _ refl (then _ _ _ _ _ _ (of_int-runs n _ lies) refl))
+    (then _ _ _ _ _ _ refl (then _ _ _ _ _ _ (of_bool-runs true _) refl))
+
+int-read-runs :
+    (v : Value) (n : ℤ) (input : List ℕ) →
+    takes_bytes (front_length (front_of true input)) (state_with 98 4 (int_store v false input))
+    ≡ Done (tt {0}) (state_with 98 28 (int_store v false [])) →
+    is_in ints n ≡ true →
+    reads_into (global_reference 1) (global_reference 0) (number_found ints (front_of true input))
+    ≡ (assigns (global_reference 0) (value.Num n) >>= (λ _. assigns (global_reference 1) (number_of_bool true))) →
+    does int_reading int_calls (roll-CoreStmtOf CoreExpr int_read) (state_with 99 1 (int_store v false input))
+    ≡ Done (tt {0}) (state_with 98 28 (int_store (value.Num n) true []))
+unfolding ◌>>=◌ spend gives input_left
+int-read-runs v n input takes lies is =
+    row-runs int_reading int_calls int_read _ _
+    (in_out-runs int_reading here (performs (done_reference int_reading) procedures.ReadInt (Referred (global_reference 0) ∷ [])) _ _ 98 refl
+    (rw (int-range, takes) (int-into-runs v n 28 (number_found ints (front_of true input)) lies is)))
+
+abbrev signed_seven : ℕ → List ℕ
+signed_seven sign = 32 ∷ sign ∷ 55 ∷ []
+
+int_reading-begins : (input : List ℕ) → opened int_reading input 99 ≡ state_with 99 1 (int_store (start_value_of kinds.Int) false input)
+unfolding stores.opens
+int_reading-begins input = rw start-bool refl
+
+-- i is -7 afterwards
+pub minus_read-does :
+    block (does int_reading int_calls) (roll-CoreStmtOf CoreExpr int_read ∷ []) (opened int_reading (signed_seven 45) 99)
+    ≡ Done (tt {0}) (state_with 98 28 (int_store (value.Num (negsuc 6)) true []))
+unfolding ◌>>=◌ gives takes_byte stores.takes
+minus_read-does =
+    rw (int_reading-begins (signed_seven 45))
+    (then (does int_reading int_calls (roll-CoreStmtOf CoreExpr int_read)) _ _ _ _ _
+    (int-read-runs (start_value_of kinds.Int) (negsuc 6) (signed_seven 45) refl refl refl) (gives-runs _ _))
+
+pub minus_read-comes : meaning int_reading [] (signed_seven 45) 100 ≡ record { events = []; stands = Ended; input = []; work = 28 }
+minus_read-comes = of-body _ _ _ _ _ ∙ ended-comes int_reading _ (signed_seven 45) 99 _ minus_read-does
+
+-- i is 7 afterwards
+pub plus_read-does :
+    block (does int_reading int_calls) (roll-CoreStmtOf CoreExpr int_read ∷ []) (opened int_reading (signed_seven 43) 99)
+    ≡ Done (tt {0}) (state_with 98 28 (int_store (value.Num (pos 7)) true []))
+unfolding ◌>>=◌ gives takes_byte stores.takes
+plus_read-does =
+    rw (int_reading-begins (signed_seven 43))
+    (then (does int_reading int_calls (roll-CoreStmtOf CoreExpr int_read)) _ _ _ _ _
+    (int-read-runs (start_value_of kinds.Int) (pos 7) (signed_seven 43) refl refl refl) (gives-runs _ _))
+
+pub plus_read-comes : meaning int_reading [] (signed_seven 43) 100 ≡ record { events = []; stands = Ended; input = []; work = 28 }
+plus_read-comes = of-body _ _ _ _ _ ∙ ended-comes int_reading _ (signed_seven 43) 99 _ plus_read-does

@@ -159,7 +159,7 @@ pub of_int-runs : (n : ℤ) (state : State) → is_in ints n ≡ true → of_typ
 unfolding gives
 of_int-runs n state lies = rw (int-of n, lies) refl
 
-abbrev i_named : CoreDesignatorOf CoreExpr
+abbrev pub i_named : CoreDesignatorOf CoreExpr
 i_named = record { place = here; root = roots.Global (codes "M") (codes "i"); root_kind = kinds.Int; steps = [] }
 
 abbrev least_written : CoreExpr

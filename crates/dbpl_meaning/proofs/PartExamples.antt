@@ -1,0 +1,98 @@
+-- Parts of variables, computed from the rows, in a store in which the variable has parts that are known.
+use Rattle.std.proofs.Common.{◌≡◌, ◌+◌, ◌∙◌, ℕ, ℤ, pos, List, [], ◌∷◌, Some, None, refl}
+use Rattle.std.specs.Prelude.{codes}
+use Rattle.dbpl_core.specs.Stores as stores
+use Rattle.dbpl_core.specs.Stores.{Store}
+use Rattle.dbpl_core.specs.declared.cell.Cell.TheVariants as cell
+use Rattle.dbpl_core.specs.declared.designator_of.CoreDesignatorOf.{CoreDesignatorOf}
+use Rattle.dbpl_core.specs.declared.expr.CoreExpr.{CoreExpr, roll-CoreExpr}
+use Rattle.dbpl_core.specs.declared.expr.CoreExpr.TheOpen as exprs
+use Rattle.dbpl_core.specs.declared.program.Program.{Program}
+use Rattle.dbpl_core.specs.declared.reference.Reference.{Reference}
+use Rattle.dbpl_core.specs.declared.reference_root.ReferenceRoot.TheVariants as root
+use Rattle.dbpl_core.specs.declared.root.Root.TheVariants as roots
+use Rattle.dbpl_core.specs.declared.step_of.CoreStepOf.TheVariants as steps
+use Rattle.dbpl_core.specs.declared.stmt.CoreStmtOf.{CoreStmtOf-F, roll-CoreStmtOf}
+use Rattle.dbpl_core.specs.declared.stmt.CoreStmtOf.TheOpen as stmts
+use Rattle.dbpl_meaning.proofs.Examples.{Statement, card-range, cards, here, literal, program_of, state_with}
+use Rattle.dbpl_meaning.proofs.Running.{fits-runs, gives-runs, number-runs, number_text-runs, of_card-runs, row-runs, spend-runs, then, value-runs}
+use Rattle.dbpl_meaning.specs.Declared.{global_reference, started}
+use Rattle.dbpl_meaning.specs.Expressions.{Calls, led_to, root_of, value_of}
+use Rattle.dbpl_meaning.specs.Meaning.{calls_at}
+use Rattle.dbpl_meaning.specs.State.{Done, State}
+use Rattle.dbpl_meaning.specs.Statements.{does, of}
+use Rattle.dbpl_meaning.specs.Words.{◌>>=◌, assigns, gives, kind_at, looks, replaces, spend, value_at}
+use Rattle.dbpl_value.specs.declared.db_type.DbType.{DbType}
+use Rattle.dbpl_value.specs.declared.db_type.DbType.TheVariants as kinds
+use Rattle.dbpl_value.specs.declared.field.Field.{Field}
+use Rattle.dbpl_value.specs.declared.step.Step.TheVariants as step
+use Rattle.dbpl_value.specs.declared.value.Value.{Value}
+use Rattle.dbpl_value.specs.declared.value.Value.TheVariants as value
+
+abbrev one_set : CoreDesignatorOf CoreExpr → CoreStmtOf-F CoreExpr Statement
+one_set part = stmts.Assign here part (roll-CoreExpr (exprs.Fitted here kinds.Card (literal 1)))
+
+abbrev num : ℕ → Value
+num n = value.Num (pos n)
+
+-- ---- r.a := 1, and then the value of r.a, with r: RECORD a: CARDINAL END
+
+abbrev a_field : List Field
+a_field = record { name = codes "a"; kind = kinds.Card } ∷ []
+
+abbrev r_a : CoreDesignatorOf CoreExpr
+r_a = record { place = here; root = roots.Global (codes "M") (codes "r"); root_kind = kinds.Rec a_field; steps = steps.Field 0 ∷ [] }
+
+abbrev field_set : Program
+field_set = program_of (record { name = codes "r"; kind = kinds.Rec a_field } ∷ []) [] (roll-CoreStmtOf CoreExpr (one_set r_a) ∷ [])
+
+abbrev field_calls : Calls
+field_calls = calls_at field_set 9999
+
+abbrev with_a : ℕ → Store
+with_a n = record {
+  globals = cell.Holds (kinds.Rec a_field) (value.Rec (num n ∷ [])) ∷ started kinds.Bool ∷ [];
+  frames = [] ∷ [] ∷ [];
+  database = [];
+  input = [];
+  events = [];
+}
+
+abbrev at_a : Reference
+at_a = record { root = root.Global 0; path = step.Field 0 ∷ [] }
+
+a-led : (left work n : ℕ) → led_to field_set (of field_set field_calls) r_a (state_with left work (with_a n)) ≡ Done at_a (state_with left (work + 1 + 1) (with_a n))
+unfolding ◌>>=◌ spend gives
+a-led left work n = refl
+
+a-kind : (left work n : ℕ) → looks (kind_at at_a) (state_with left work (with_a n)) ≡ Done kinds.Card (state_with left work (with_a n))
+unfolding looks
+a-kind left work n = rw (kinds.outs-Rec a_field) refl
+
+a-replaced : (left work n m : ℕ) → replaces at_a (num m) (state_with left work (with_a n)) ≡ Done (tt {0}) (state_with left work (with_a m))
+unfolding replaces stores.puts
+a-replaced left work n m = rw (value.outs-Rec (num n ∷ [])) refl
+
+-- r.a is 1 afterwards
+pub field_set-runs :
+    (left work n : ℕ) →
+    does field_set field_calls (roll-CoreStmtOf CoreExpr (one_set r_a)) (state_with left work (with_a n))
+    ≡ Done (tt {0}) (state_with left (work + 1 + 1 + 1 + 1) (with_a 1))
+unfolding assigns
+field_set-runs left work n =
+    row-runs field_set field_calls (one_set r_a) _ _
+    (then _ _ _ _ _ _ (a-led left (work + 1) n)
+    (then _ _ _ _ _ _ (fits-runs field_set field_calls here kinds.Card cards (literal 1) (pos 1) _ _ card-range refl (number_text-runs field_set field_calls here (pos 1) _))
+    (then _ _ _ _ _ _ (a-kind left (work + 1 + 1 + 1 + 1) n)
+    (then _ _ _ _ _ _ (of_card-runs (pos 1) _ refl) (a-replaced left (work + 1 + 1 + 1 + 1) n 1)))))
+
+a-there : (left work n : ℕ) → value_at at_a (state_with left work (with_a n)) ≡ Done (num n) (state_with left work (with_a n))
+unfolding value_at looks stores.reads
+a-there left work n = rw (value.outs-Rec (num n ∷ [])) refl
+
+-- the value of r.a is what stands there
+pub field_read-runs :
+    (left work n : ℕ) →
+    value_of field_set field_calls (roll-CoreExpr (exprs.Read r_a kinds.Card)) (state_with left work (with_a n)) ≡ Done (num n) (state_with left (work + 1 + 1) (with_a n))
+field_read-runs left work n =
+    value-runs field_set field_calls (exprs.Read r_a kinds.Card) _ _ (then _ _ _ _ _ _ (a-led left work n) (a-there left (work + 1 + 1) n))
