@@ -1,10 +1,9 @@
 -- c := f(1), with PROCEDURE f(n: CARDINAL): CARDINAL; VAR k: CARDINAL; BEGIN k := n; RETURN k END f; computed from the rows.
-use Rattle.std.proofs.Common.{◌≡◌, ◌+◌, ◌∙◌, ℕ, ℤ, pos, false, List, [], ◌∷◌, ◌++◌, Option, Some, refl}
+use Rattle.std.proofs.Common.{◌≡◌, ◌+◌, ◌∙◌, ℕ, pos, false, [], ◌∷◌, Some, refl}
 use Rattle.std.specs.Prelude.{codes}
 use Rattle.dbpl_core.specs.Stores as stores
 use Rattle.dbpl_core.specs.Stores.{Store}
 use Rattle.dbpl_core.specs.declared.argument_of.CoreArgumentOf.TheVariants as arguments
-use Rattle.dbpl_core.specs.declared.call_of.CoreCallOf.{CoreCallOf}
 use Rattle.dbpl_core.specs.declared.cell.Cell.{Cell}
 use Rattle.dbpl_core.specs.declared.cell.Cell.TheVariants as cell
 use Rattle.dbpl_core.specs.declared.expr.CoreExpr.{CoreExpr, CoreExpr-F, roll-CoreExpr}
@@ -18,14 +17,13 @@ use Rattle.dbpl_core.specs.declared.stmt.CoreStmtOf.TheOpen as stmts
 use Rattle.dbpl_meaning.proofs.Calling.{return-returns, routine-done}
 use Rattle.dbpl_meaning.proofs.Examples.{Statement, c_declared, c_named, card-range, cards, ended-comes, here, literal, of-body, one-runs, opened, program_of, slot, start-card, state_with, store_of}
 use Rattle.dbpl_meaning.proofs.Running.{after, fits-runs, gives-runs, number_text-runs, of_card-runs, row-runs, spend-runs, stopped, then, there-runs, value-runs}
-use Rattle.dbpl_meaning.specs.Declared.{global_reference, started}
+use Rattle.dbpl_meaning.specs.Declared.{global_reference}
 use Rattle.dbpl_meaning.specs.Expressions.{Calls, led_to, value_of}
 use Rattle.dbpl_meaning.specs.Meaning.{Ended, calls_at, meaning}
 use Rattle.dbpl_meaning.specs.State as phrase
 use Rattle.dbpl_meaning.specs.State.{Done, State, Stops}
 use Rattle.dbpl_meaning.specs.Statements.{does, of}
 use Rattle.dbpl_meaning.specs.Words.{◌>>=◌, ByReturn, assigns, block, closes_frame, gives, looks, nothing, opens_frame, replaces, spend, stops, value_at, variable_at}
-use Rattle.dbpl_value.specs.Types.{is_in}
 use Rattle.dbpl_value.specs.Values.{start_value_of}
 use Rattle.dbpl_value.specs.declared.db_type.DbType.TheVariants as kinds
 use Rattle.dbpl_value.specs.declared.head.Head.{Head}

@@ -1,19 +1,19 @@
 -- A loop is its test, and where that says so a turn and the loop again: that turns are counted is seen in nothing else. It
 -- needs that test and turn have no more turns left afterwards, as all phrases of a program do.
 use Rattle.std.proofs.Common.{◌≡◌, ◌<◌, ◌≤◌, ℕ, zero, suc, ℤ, Bool, true, false, List, Option, ap, arith, if◌then◌else◌, refl, sym, ◌∙◌}
+use Rattle.dbpl_base.specs.declared.place.Place.{Place}
 use Rattle.dbpl_core.specs.declared.control_of.CoreControlOf.{CoreControlOf}
 use Rattle.dbpl_core.specs.declared.expr.CoreExpr.{CoreExpr}
 use Rattle.dbpl_core.specs.declared.program.Program.{Program}
 use Rattle.dbpl_core.specs.declared.stmt.CoreStmtOf.{CoreStmtOf}
 use Rattle.dbpl_core.specs.declared.stmt.CoreStmtOf.TheOpen as stmts
-use Rattle.dbpl_base.specs.declared.place.Place.{Place}
 use Rattle.dbpl_meaning.proofs.Goes.{Keeps}
 use Rattle.dbpl_meaning.proofs.Levels.{does-roll}
-use Rattle.dbpl_meaning.specs.Loops.{IsFor, IsLoop, IsRepeat, IsWhile, repeated}
 use Rattle.dbpl_meaning.proofs.Rows.{AreSteady, steady_condition, steady_round, steady_round_until, steady_round_with}
 use Rattle.dbpl_meaning.proofs.Steady.{IsSteady, steady_gives, turn-less}
 use Rattle.dbpl_meaning.proofs.Trees.{steady_calls, steady_does_of, steady_value_of}
 use Rattle.dbpl_meaning.specs.Expressions.{Calls, value_of}
+use Rattle.dbpl_meaning.specs.Loops.{IsFor, IsLoop, IsRepeat, IsWhile, repeated}
 use Rattle.dbpl_meaning.specs.Meaning.{calls_at}
 use Rattle.dbpl_meaning.specs.State.{Doing, Done, Ran, State, Stops, state_in}
 use Rattle.dbpl_meaning.specs.Statements.{condition, does, goes_on_to, one_without, round, round_until, round_with}

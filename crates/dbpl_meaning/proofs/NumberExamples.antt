@@ -2,6 +2,7 @@
 use Rattle.std.proofs.Common.{◌≡◌, ◌+◌, ◌∙◌, ℕ, ℤ, pos, negsuc, true, false, List, [], ◌∷◌, Some, None, refl}
 use Rattle.dbpl_base.specs.declared.place.Place.{Place}
 use Rattle.dbpl_core.specs.Stores.{Store}
+use Rattle.dbpl_core.specs.Stores as stores
 use Rattle.dbpl_core.specs.declared.arithmetic_operator.ArithmeticOperator.TheVariants as operators
 use Rattle.dbpl_core.specs.declared.direction.Direction.TheVariants as directions
 use Rattle.dbpl_core.specs.declared.expr.CoreExpr.{CoreExpr, CoreExpr-F, roll-CoreExpr}
@@ -12,7 +13,6 @@ use Rattle.dbpl_core.specs.declared.sign.Sign.TheVariants as signs
 use Rattle.dbpl_core.specs.declared.stmt.CoreStmtOf.{CoreStmtOf-F, roll-CoreStmtOf}
 use Rattle.dbpl_core.specs.declared.stmt.CoreStmtOf.TheOpen as stmts
 use Rattle.dbpl_core.specs.declared.whole_host.WholeHost.TheVariants as hosts
-use Rattle.dbpl_core.specs.Stores as stores
 use Rattle.dbpl_meaning.proofs.Examples.{Statement, c-gets, c-led, c-reads, c_begins, c_named, c_read, calls, card-range, cards, ended-comes, here, literal, of-body, opened, program, state_with, store_of, trap-comes}
 use Rattle.dbpl_meaning.proofs.Running.{exact-runs, fits-runs, fitted-runs, gives-runs, number-runs, number_text-runs, row-runs, spend-runs, stopped, then, truth-runs, value-runs}
 use Rattle.dbpl_meaning.specs.Expressions.{Calls, value_of}

@@ -1,5 +1,5 @@
 -- Parts of variables, computed from the rows, in a store in which the variable has parts that are known.
-use Rattle.std.proofs.Common.{◌≡◌, ◌+◌, ◌∙◌, ℕ, ℤ, pos, List, [], ◌∷◌, Some, None, refl}
+use Rattle.std.proofs.Common.{◌≡◌, ◌+◌, ℕ, pos, List, [], ◌∷◌, refl}
 use Rattle.std.specs.Prelude.{codes}
 use Rattle.dbpl_core.specs.Stores as stores
 use Rattle.dbpl_core.specs.Stores.{Store}
@@ -96,3 +96,76 @@ pub field_read-runs :
     value_of field_set field_calls (roll-CoreExpr (exprs.Read r_a kinds.Card)) (state_with left work (with_a n)) ≡ Done (num n) (state_with left (work + 1 + 1) (with_a n))
 field_read-runs left work n =
     value-runs field_set field_calls (exprs.Read r_a kinds.Card) _ _ (then _ _ _ _ _ _ (a-led left work n) (a-there left (work + 1 + 1) n))
+
+-- ---- a[1] := 1, with a: ARRAY [1 .. 3] OF CARDINAL
+
+abbrev array : DbType
+array = kinds.Arr (kinds.Sub kinds.Card (pos 1) (pos 3)) kinds.Card
+
+abbrev a_1 : CoreDesignatorOf CoreExpr
+a_1 = record {
+  place = here;
+  root = roots.Global (codes "M") (codes "a");
+  root_kind = array;
+  steps = steps.Index here (record { least = pos 1; greatest = pos 3 }) (literal 1) ∷ [];
+}
+
+abbrev element_set : Program
+element_set = program_of (record { name = codes "a"; kind = array } ∷ []) [] (roll-CoreStmtOf CoreExpr (one_set a_1) ∷ [])
+
+abbrev element_calls : Calls
+element_calls = calls_at element_set 9999
+
+abbrev with_elements : ℕ → ℕ → ℕ → Store
+with_elements n m k = record {
+  globals = cell.Holds array (value.Arr (num n ∷ num m ∷ num k ∷ [])) ∷ started kinds.Bool ∷ [];
+  frames = [] ∷ [] ∷ [];
+  database = [];
+  input = [];
+  events = [];
+}
+
+abbrev at_first : Reference
+at_first = record { root = root.Global 0; path = step.Index 0 ∷ [] }
+
+array-root : (state : State) → root_of element_set a_1.root state ≡ Done (global_reference 0) state
+unfolding ◌>>=◌ gives
+array-root state = refl
+
+first-led :
+    (left work : ℕ) (store : Store) →
+    led_to element_set (of element_set element_calls) a_1 (state_with left work store) ≡ Done at_first (state_with left (work + 1 + 1 + 1) store)
+first-led left work store =
+    then _ _ _ _ _ _ (spend-runs 1 _)
+    (then _ _ _ _ _ _ (array-root _)
+    (then _ _ _ _ _ _
+    (then _ _ _ _ _ _
+    (then _ _ _ _ _ _ (spend-runs 1 _)
+    (then _ _ _ _ _ _ (number_text-runs element_set element_calls here (pos 1) _)
+    (then _ _ _ _ _ _ (number-runs (pos 1) _)
+    (then _ _ _ _ _ _ (gives-runs (pos 1) _) (gives-runs _ _)))))
+    (then _ _ _ _ _ _ (gives-runs [] _) (gives-runs _ _)))
+    (gives-runs _ _)))
+
+first-kind : (left work n m k : ℕ) → looks (kind_at at_first) (state_with left work (with_elements n m k)) ≡ Done kinds.Card (state_with left work (with_elements n m k))
+unfolding looks
+first-kind left work n m k = rw (kinds.outs-Arr (kinds.Sub kinds.Card (pos 1) (pos 3)) kinds.Card) refl
+
+first-replaced :
+    (left work n m k j : ℕ) →
+    replaces at_first (num j) (state_with left work (with_elements n m k)) ≡ Done (tt {0}) (state_with left work (with_elements j m k))
+unfolding replaces stores.puts
+first-replaced left work n m k j = rw (value.outs-Arr (num n ∷ num m ∷ num k ∷ [])) refl
+
+-- a[1] is 1 afterwards, and the others are as they were
+pub element_set-runs :
+    (left work n m k : ℕ) →
+    does element_set element_calls (roll-CoreStmtOf CoreExpr (one_set a_1)) (state_with left work (with_elements n m k))
+    ≡ Done (tt {0}) (state_with left (work + 1 + 1 + 1 + 1 + 1) (with_elements 1 m k))
+unfolding assigns
+element_set-runs left work n m k =
+    row-runs element_set element_calls (one_set a_1) _ _
+    (then _ _ _ _ _ _ (first-led left (work + 1) (with_elements n m k))
+    (then _ _ _ _ _ _ (fits-runs element_set element_calls here kinds.Card cards (literal 1) (pos 1) _ _ card-range refl (number_text-runs element_set element_calls here (pos 1) _))
+    (then _ _ _ _ _ _ (first-kind left (work + 1 + 1 + 1 + 1 + 1) n m k)
+    (then _ _ _ _ _ _ (of_card-runs (pos 1) _ refl) (first-replaced left (work + 1 + 1 + 1 + 1 + 1) n m k 1)))))

@@ -8,21 +8,21 @@ use Rattle.dbpl_core.specs.declared.argument_of.CoreArgumentOf.TheVariants as ar
 use Rattle.dbpl_core.specs.declared.expr.CoreExpr.{CoreExpr, CoreExpr-F, roll-CoreExpr}
 use Rattle.dbpl_core.specs.declared.expr.CoreExpr.TheOpen as exprs
 use Rattle.dbpl_core.specs.declared.in_out_procedure.InOutProcedure.TheVariants as procedures
+use Rattle.dbpl_core.specs.declared.program.Program.{Program}
+use Rattle.dbpl_core.specs.declared.sign.Sign.TheVariants as signs
 use Rattle.dbpl_core.specs.declared.stmt.CoreStmtOf.{CoreStmtOf-F, roll-CoreStmtOf}
 use Rattle.dbpl_core.specs.declared.stmt.CoreStmtOf.TheOpen as stmts
 use Rattle.dbpl_meaning.proofs.Calling.{prints-runs, write, write-runs}
-use Rattle.dbpl_core.specs.declared.program.Program.{Program}
-use Rattle.dbpl_core.specs.declared.sign.Sign.TheVariants as signs
-use Rattle.dbpl_meaning.proofs.TrapExamples.{int-range, ints, of_int-runs}
 use Rattle.dbpl_meaning.proofs.Examples.{Statement, empty_store, program_of, c-led, c_begins, c_named, c_read, calls, card-range, cards, control, ended-comes, here, in_out-runs, literal, literal-host, of-body, one-runs, opened, program, state_with, store_of, width, width-range}
 use Rattle.dbpl_meaning.proofs.Running.{exact-runs, number-runs, fits-runs, fitted-runs, gives-runs, loops-runs, number_of_card-runs, number_text-runs, of_card-runs, spend-runs, then, turn-again, turn-ends, turn-runs, value-runs}
+use Rattle.dbpl_meaning.proofs.TrapExamples.{int-range, ints, of_int-runs}
+use Rattle.dbpl_meaning.specs.Declared.{global_reference}
 use Rattle.dbpl_meaning.specs.Expressions.{Calls, value_of}
 use Rattle.dbpl_meaning.specs.InOut.{number_text}
 use Rattle.dbpl_meaning.specs.Meaning.{Ended, calls_at, meaning}
 use Rattle.dbpl_meaning.specs.State.{Done}
 use Rattle.dbpl_meaning.specs.Statements.{carried_host, does, number_in_host, round_with}
 use Rattle.dbpl_meaning.specs.Words.{assigns, block, looks, replaces, value_at, writes}
-use Rattle.dbpl_meaning.specs.Declared.{global_reference}
 use Rattle.dbpl_value.specs.Types.{is_in}
 use Rattle.dbpl_value.specs.declared.db_type.DbType.TheVariants as kinds
 use Rattle.dbpl_value.specs.declared.value.Value.TheVariants as value

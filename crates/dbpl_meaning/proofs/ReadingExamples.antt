@@ -1,7 +1,6 @@
 -- What is read, computed from the rows.
 use Rattle.std.proofs.Common.{◌≡◌, ◌+◌, ◌∙◌, ℕ, suc, ℤ, pos, negsuc, Bool, true, false, List, [], ◌∷◌, Option, ap, refl}
 use Rattle.std.specs.Prelude.{codes}
-use Rattle.dbpl_meaning.proofs.TrapExamples.{i_named, int-range, ints, of_int-runs}
 use Rattle.dbpl_core.specs.Stores as stores
 use Rattle.dbpl_core.specs.Stores.{Store}
 use Rattle.dbpl_core.specs.declared.argument_of.CoreArgumentOf.TheVariants as arguments
@@ -13,6 +12,7 @@ use Rattle.dbpl_core.specs.declared.stmt.CoreStmtOf.{CoreStmtOf-F, roll-CoreStmt
 use Rattle.dbpl_core.specs.declared.stmt.CoreStmtOf.TheOpen as stmts
 use Rattle.dbpl_meaning.proofs.Examples.{Statement, c_declared, c_named, card-range, cards, ended-comes, in_out-runs, of-body, opened, here, program_of, start-card, state_with}
 use Rattle.dbpl_meaning.proofs.Running.{gives-runs, of_card-runs, row-runs, then}
+use Rattle.dbpl_meaning.proofs.TrapExamples.{i_named, int-range, ints, of_int-runs}
 use Rattle.dbpl_meaning.specs.Declared.{done_reference, global_reference}
 use Rattle.dbpl_meaning.specs.Expressions.{Calls}
 use Rattle.dbpl_meaning.specs.InOut.{Referred, performs, reads_into}

@@ -1,10 +1,9 @@
 -- REPEAT and IF, computed from the rows.
-use Rattle.std.proofs.Common.{◌≡◌, ◌+◌, ◌∙◌, ℕ, ℤ, pos, Bool, true, false, not, List, [], ◌∷◌, Some, refl}
+use Rattle.std.proofs.Common.{◌≡◌, ◌+◌, ◌∙◌, ℕ, pos, Bool, true, false, not, List, [], ◌∷◌, Some, refl}
 use Rattle.std.specs.Ordering.{int_cmp}
 use Rattle.dbpl_core.specs.Events.{Out}
 use Rattle.dbpl_core.specs.Stores as stores
 use Rattle.dbpl_core.specs.Stores.{Store}
-use Rattle.dbpl_core.specs.declared.arm_of.CoreArmOf.{CoreArmOf}
 use Rattle.dbpl_core.specs.declared.comparison.Comparison.TheVariants as comparisons
 use Rattle.dbpl_core.specs.declared.expr.CoreExpr.{CoreExpr, roll-CoreExpr}
 use Rattle.dbpl_core.specs.declared.expr.CoreExpr.TheOpen as exprs
@@ -17,10 +16,10 @@ use Rattle.dbpl_meaning.proofs.Examples.{Statement, c-reads, c_begins, c_read, c
 use Rattle.dbpl_meaning.proofs.Running.{compared-runs, gives-runs, loops-runs, number_text-runs, spend-runs, then, truth-runs, turn-again, turn-ends, turn-runs, value-runs}
 use Rattle.dbpl_meaning.specs.Expressions.{Calls}
 use Rattle.dbpl_meaning.specs.Meaning.{Ended, calls_at, meaning}
-use Rattle.dbpl_meaning.specs.Numbers.{is_related, number_of_bool, wide}
-use Rattle.dbpl_meaning.specs.State.{Done, State}
-use Rattle.dbpl_meaning.specs.Statements.{condition, does, first_true, round_until}
-use Rattle.dbpl_meaning.specs.Words.{block, gives, nothing}
+use Rattle.dbpl_meaning.specs.Numbers.{is_related, wide}
+use Rattle.dbpl_meaning.specs.State.{Done}
+use Rattle.dbpl_meaning.specs.Statements.{condition, does, round_until}
+use Rattle.dbpl_meaning.specs.Words.{block}
 use Rattle.dbpl_value.specs.Types.{is_in}
 
 -- ---- REPEAT INC(c) UNTIL c = 3

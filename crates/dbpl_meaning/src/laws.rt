@@ -7,8 +7,8 @@ ghost use Rattle.dbpl_core.specs.declared.control_of.CoreControlOf.{CoreControlO
 ghost use Rattle.dbpl_core.specs.declared.expr.CoreExpr.{CoreExpr as Expr, CoreExpr-F, out-CoreExpr, roll-CoreExpr};
 ghost use Rattle.dbpl_core.specs.declared.program.Program.{Program as AnyProgram};
 ghost use Rattle.dbpl_core.specs.declared.stmt.CoreStmtOf.{CoreStmtOf as StmtOf, CoreStmtOf-F, out-CoreStmtOf, roll-CoreStmtOf};
-ghost use Rattle.dbpl_meaning.specs.Expressions.{Calls, meaning_of, value_level, value_of};
 ghost use Rattle.dbpl_core.specs.declared.unit.CoreUnit.{CoreUnit as AnyUnit};
+ghost use Rattle.dbpl_meaning.specs.Expressions.{Calls, meaning_of, value_level, value_of};
 ghost use Rattle.dbpl_meaning.specs.Loops.{IsFor, IsLoop, IsRepeat, IsWhile};
 ghost use Rattle.dbpl_meaning.specs.Meaning.{begun, bodies, body_and_then, calls_at, leaves, limit, meaning, named_does, runs};
 ghost use Rattle.dbpl_meaning.specs.Meaning as whole;
