@@ -21,7 +21,7 @@ use Rattle.dbpl_meaning.specs.Meaning.{calls_at, result_of}
 use Rattle.dbpl_meaning.specs.State as phrase
 use Rattle.dbpl_meaning.specs.State.{Doing, Done, State, Stops}
 use Rattle.dbpl_meaning.specs.Statements.{does}
-use Rattle.dbpl_meaning.specs.Words.{AtEnd, ByReturn, Leaving, block, closes_frame, gives, of_type, opens_frame, up_to_return, writes}
+use Rattle.dbpl_meaning.specs.Words.{ByReturn, Leaving, block, closes_frame, gives, of_type, opens_frame, up_to_return, writes}
 use Rattle.dbpl_value.proofs.ValuesLemmas.{is_of-out}
 use Rattle.dbpl_value.specs.Types.{is_in, range_of}
 use Rattle.dbpl_value.specs.Values.{is_of}
@@ -75,10 +75,6 @@ write-runs program room byte left work store lies =
 return-halts : (doing : Doing (Unit {0})) (state last : State) → doing state ≡ Stops phrase.Ended last → up_to_return doing state ≡ Stops phrase.Ended last
 unfolding up_to_return
 return-halts doing state last is = rw is refl
-
-pub return-ends : (doing : Doing (Unit {0})) (state last : State) → doing state ≡ Done (tt {0}) last → up_to_return doing state ≡ Done AtEnd last
-unfolding up_to_return
-return-ends doing state last is = rw is refl
 
 pub return-returns :
     (doing : Doing (Unit {0})) (v : Option Value) (state last : State) → doing state ≡ Stops (phrase.Returning v) last →
