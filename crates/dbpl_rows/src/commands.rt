@@ -34,7 +34,26 @@ pub(crate) fn runs(alloc: Global, parts: &Parts) -> Result<Answer, Failure> {
     let mut codes = Vec::new(alloc);
     codes.push(created(alloc, &mut world)?.code())?;
     for program in parts.from(1) {
-        codes.push(run_over(alloc, parts.get(0)?, program.as_slice(), &mut world)?.code())?;
+        codes.push(run_over(alloc, b"s", parts.get(0)?, program.as_slice(), &mut world)?.code())?;
+    }
+    answer_of(codes, &world)
+}
+
+/// A store that is there, and then each program run over it: the store's name, its log, a database module, and the
+/// programs in their order.
+pub(crate) fn runs_over(alloc: Global, parts: &Parts) -> Result<Answer, Failure> {
+    let mut world = MemoryWorld::make(alloc, b"", &[], ROOM)?;
+    world.put_store(alloc, parts.text(0)?, parts.get(1)?, b"")?;
+    let mut codes = Vec::new(alloc);
+    for program in parts.from(3) {
+        let status = run_over(
+            alloc,
+            parts.get(0)?,
+            parts.get(2)?,
+            program.as_slice(),
+            &mut world,
+        )?;
+        codes.push(status.code())?;
     }
     answer_of(codes, &world)
 }
@@ -48,9 +67,10 @@ fn created(alloc: Global, world: &mut MemoryWorld) -> Result<Status, Failure> {
     Ok(run(alloc, words.as_slice(), &mut shelf, world))
 }
 
-/// Runs a program over that store.
+/// Runs a program over the store of this name.
 fn run_over(
     alloc: Global,
+    store: &[u8],
     schema: &[u8],
     program: &[u8],
     world: &mut MemoryWorld,
@@ -67,8 +87,8 @@ fn run_over(
     ];
     let mut shelf = MemoryShelf::make(alloc, &files, &[])?;
     let mut words = List::new(alloc);
-    for word in ["run", "s", "d.mod", "p.mod"] {
-        words.push(name_of(alloc, word.as_bytes())?)?;
+    for word in [b"run".as_slice(), store, b"d.mod", b"p.mod"] {
+        words.push(name_of(alloc, word)?)?;
     }
     Ok(run(alloc, words.as_slice(), &mut shelf, world))
 }

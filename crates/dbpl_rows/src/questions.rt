@@ -47,6 +47,7 @@ fn about_whole(alloc: Global, kind: &str, parts: &Parts) -> Result<Answer, Failu
         "body" => forms::body(alloc, parts),
         "command" => commands::command(alloc, parts),
         "runs" => commands::runs(alloc, parts),
+        "runs over" => commands::runs_over(alloc, parts),
         _ => Err(Failure::Unreadable),
     }
 }
