@@ -1,0 +1,48 @@
+-- What the module InOut shows: procedures that read and print, and the variable Done.
+use Rattle.std.specs.Prelude.{ℕ, Bool, true, false, List, [], ◌∷◌, Option, Some, None, codes}
+use Rattle.dbpl_symbols.specs.StandardNames.{own}
+use Rattle.dbpl_symbols.specs.declared.decl.Decl.TheVariants as decls
+use Rattle.dbpl_symbols.specs.declared.exports.Exports.{Exports}
+use Rattle.dbpl_symbols.specs.declared.in_out_routine.InOutRoutine.{InOutRoutine}
+use Rattle.dbpl_symbols.specs.declared.in_out_routine.InOutRoutine.TheVariants as routines
+use Rattle.dbpl_symbols.specs.declared.pair.Pair.{Pair}
+use Rattle.dbpl_symbols.specs.declared.sort.Sort.TheVariants as sorts
+use Rattle.dbpl_value.specs.declared.db_type.DbType.{DbType}
+use Rattle.dbpl_value.specs.declared.db_type.DbType.TheVariants as kinds
+use Rattle.dbpl_value.specs.declared.head.Head.{Head}
+use Rattle.dbpl_value.specs.declared.param.Param.{Param}
+
+-- VAR name: kind
+abbrev pub var_param : List ℕ → DbType → Param
+var_param name kind = record { name = name; kind = kind; by_ref = true }
+
+-- name: kind
+abbrev pub value_param : List ℕ → DbType → Param
+value_param name kind = record { name = name; kind = kind; by_ref = false }
+
+-- PROCEDURE name(params)
+abbrev pub procedure_head : List ℕ → List Param → Head
+procedure_head name params = record { name = name; transaction = false; params = params; result = None }
+
+-- a procedure of InOut with a heading
+abbrev pub routine : InOutRoutine → List ℕ → List Param → Pair
+routine which name params = own name (decls.InOut which (Some (procedure_head name params)))
+
+-- THE declarations of InOut
+unfoldable pub in_out_pairs : List Pair
+in_out_pairs =
+    routine routines.Read (codes "Read") (var_param (codes "c") kinds.Char ∷ []) ∷
+    routine routines.ReadInt (codes "ReadInt") (var_param (codes "x") kinds.Int ∷ []) ∷
+    routine routines.ReadCard (codes "ReadCard") (var_param (codes "x") kinds.Card ∷ []) ∷
+    routine routines.Write (codes "Write") (value_param (codes "c") kinds.Char ∷ []) ∷
+    routine routines.WriteLn (codes "WriteLn") [] ∷
+    own (codes "WriteString") (decls.InOut routines.WriteString None) ∷
+    routine routines.WriteInt (codes "WriteInt")
+    (value_param (codes "x") kinds.Int ∷ value_param (codes "n") kinds.Card ∷ []) ∷
+    routine routines.WriteCard (codes "WriteCard")
+    (value_param (codes "x") kinds.Card ∷ value_param (codes "n") kinds.Card ∷ []) ∷
+    own (codes "Done") (decls.Variable kinds.Bool sorts.Done) ∷ []
+
+-- THE interface of InOut
+abbrev pub in_out_exports : Exports
+in_out_exports = record { module = codes "InOut"; pairs = in_out_pairs }

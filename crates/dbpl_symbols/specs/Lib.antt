@@ -1,0 +1,4 @@
+pub mod InOutNames
+pub mod Interfaces
+pub mod Scopes
+pub mod StandardNames

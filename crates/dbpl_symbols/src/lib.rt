@@ -1,0 +1,31 @@
+//! Names in scope: what a text has declared where a phrase of it stands, and which declaration a name means there. Beside
+//! it the standard names, what InOut exports, and what a unit shows to others.
+#![tactic(auto)]
+
+mod copies;
+mod decl;
+mod declare_err;
+mod exports;
+mod in_out_names;
+mod in_out_routine;
+mod interfaces;
+mod origin;
+mod pair;
+mod scope;
+mod sort;
+mod standard_names;
+mod standard_procedure;
+
+pub use copies::copy_decl;
+pub use decl::Decl;
+pub use declare_err::DeclareErr;
+pub use exports::Exports;
+pub use in_out_names::in_out;
+pub use in_out_routine::InOutRoutine;
+pub use interfaces::{exported, interface};
+pub use origin::Origin;
+pub use pair::Pair;
+pub use scope::Scope;
+pub use sort::Sort;
+pub use standard_names::make_scope;
+pub use standard_procedure::StandardProcedure;
