@@ -1,5 +1,5 @@
 -- What the module InOut shows: procedures that read and print, and the variable Done.
-use Rattle.std.specs.Prelude.{ℕ, Bool, true, false, List, [], ◌∷◌, Option, Some, None, codes}
+use Rattle.std.specs.Prelude.{ℕ, Bool, true, false, List, [], ◌∷◌, ◌++◌, Option, Some, None, codes}
 use Rattle.dbpl_symbols.specs.StandardNames.{own}
 use Rattle.dbpl_symbols.specs.declared.decl.Decl.TheVariants as decls
 use Rattle.dbpl_symbols.specs.declared.exports.Exports.{Exports}
@@ -28,21 +28,30 @@ procedure_head name params = record { name = name; transaction = false; params =
 abbrev pub routine : InOutRoutine → List ℕ → List Param → Pair
 routine which name params = own name (decls.InOut which (Some (procedure_head name params)))
 
--- THE declarations of InOut
-unfoldable pub in_out_pairs : List Pair
-in_out_pairs =
+-- what reads
+unfoldable pub reading_pairs : List Pair
+reading_pairs =
     routine routines.Read (codes "Read") (var_param (codes "c") kinds.Char ∷ []) ∷
     routine routines.ReadInt (codes "ReadInt") (var_param (codes "x") kinds.Int ∷ []) ∷
-    routine routines.ReadCard (codes "ReadCard") (var_param (codes "x") kinds.Card ∷ []) ∷
+    routine routines.ReadCard (codes "ReadCard") (var_param (codes "x") kinds.Card ∷ []) ∷ []
+
+-- the number that is printed, and the width
+abbrev pub number_params : DbType → List Param
+number_params kind = value_param (codes "x") kind ∷ value_param (codes "n") kinds.Card ∷ []
+
+-- what prints
+unfoldable pub writing_pairs : List Pair
+writing_pairs =
     routine routines.Write (codes "Write") (value_param (codes "c") kinds.Char ∷ []) ∷
     routine routines.WriteLn (codes "WriteLn") [] ∷
     own (codes "WriteString") (decls.InOut routines.WriteString None) ∷
-    routine routines.WriteInt (codes "WriteInt")
-    (value_param (codes "x") kinds.Int ∷ value_param (codes "n") kinds.Card ∷ []) ∷
-    routine routines.WriteCard (codes "WriteCard")
-    (value_param (codes "x") kinds.Card ∷ value_param (codes "n") kinds.Card ∷ []) ∷
-    own (codes "Done") (decls.Variable kinds.Bool sorts.Done) ∷ []
+    routine routines.WriteInt (codes "WriteInt") (number_params kinds.Int) ∷
+    routine routines.WriteCard (codes "WriteCard") (number_params kinds.Card) ∷ []
+
+-- THE declarations of InOut
+abbrev pub in_out_pairs : List Pair
+in_out_pairs = reading_pairs ++ writing_pairs ++ own (codes "Done") (decls.Variable kinds.Bool sorts.Done) ∷ []
 
 -- THE interface of InOut
 abbrev pub in_out_exports : Exports
-in_out_exports = record { module = codes "InOut"; pairs = in_out_pairs }
+in_out_exports = record { «module» = codes "InOut"; pairs = in_out_pairs }

@@ -18,7 +18,7 @@ is_own pair = is_own_origin pair.origin
 
 -- THE interface of the unit of this name: the declarations of the last level that were made there
 abbrev pub interface_of : List ℕ → Declarations → Exports
-interface_of unit scope = record { module = unit; pairs = filter is_own (last_level scope) }
+interface_of unit scope = record { «module» = unit; pairs = filter is_own (last_level scope) }
 
 -- THE declaration that a name behind a unit's name means, if the unit has declared it
 abbrev pub shown : List ℕ → Exports → Option Decl

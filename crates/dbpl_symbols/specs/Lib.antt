@@ -1,4 +1,5 @@
 pub mod InOutNames
 pub mod Interfaces
+pub mod Places
 pub mod Scopes
 pub mod StandardNames

@@ -1,7 +1,7 @@
 -- Scopes: the declarations that stand before a phrase, and which of them a name means.
-use Rattle.std.specs.Prelude.{ℕ, ◌-◌, Bool, List, [], ◌∷◌, ◌++◌, length, take, drop, reverse, slice_get, bytes_eq, Option, is_some, unwrap_or, option_map}
+use Rattle.std.specs.Prelude.{ℕ, ◌-◌, ◌≤◌, Bool, List, [], ◌∷◌, ◌++◌, length, take, drop, reverse, slice_get, bytes_eq, Option, None, is_some, unwrap_or, option_map}
 use Rattle.std.specs.List.{find}
-use Rattle.std.specs.Option.{option_map_or}
+use Rattle.std.specs.Option.{option_map_or, option_or}
 use Rattle.dbpl_symbols.specs.declared.decl.Decl.{Decl}
 use Rattle.dbpl_symbols.specs.declared.pair.Pair.{Pair}
 
@@ -20,13 +20,15 @@ is_named name pair = bytes_eq pair.name name
 abbrev pub latest : List ℕ → List Pair → Option Pair
 latest name pairs = find (is_named name) (reverse pairs)
 
--- the declarations of the last level
+-- the last item, if there is one
 abbrev pub last_of : {A : Type 0} → List A → Option A
 last_of xs = slice_get xs (length xs - 1)
 
+-- where the last level starts
 abbrev pub last_start : Declarations → ℕ
 last_start scope = unwrap_or (last_of scope.starts) 0
 
+-- the declarations of the last level
 abbrev pub last_level : Declarations → List Pair
 last_level scope = drop (last_start scope) scope.pairs
 
@@ -66,6 +68,11 @@ left scope =
     })
     (last_of scope.starts) scope
 
+-- where levels start: one behind the other, from a first place on, up to the end of the declarations
+abbrev pub RiseTo : ℕ → ℕ → List ℕ → Type 0
+RiseTo end first [] = first ≤ end
+RiseTo end first (start ∷ starts) = (first ≤ start) × RiseTo end start starts
+
 -- ---- the same, level by level
 
 -- the levels from this start on, each up to the start of the next one
@@ -76,3 +83,8 @@ levels_from start (next ∷ starts) pairs = take (next - start) (drop start pair
 -- THE levels of a scope, outermost first
 abbrev pub levels : Declarations → List (List Pair)
 levels scope = levels_from 0 scope.starts scope.pairs
+
+-- of levels, innermost first: the latest declaration of the name at the first level that has it
+abbrev pub innermost : List ℕ → List (List Pair) → Option Pair
+innermost name [] = None
+innermost name (level ∷ outer) = option_or (latest name level) (innermost name outer)

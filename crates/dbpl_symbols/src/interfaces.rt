@@ -11,7 +11,9 @@ use std::alloc::Global;
 pub fn interface(alloc: Global, unit: &Shared<Name>, scope: &Scope) -> Result<Exports, Memory>
     ensures { IfOk result (λ exports. exports ≡ interface_of unit.now scope.now) }
 {
-    Err(Memory)
+    let pairs = scope.own_pairs(alloc)?;
+    let module = unit.share()?;
+    Ok(Exports { module, pairs })
 }
 
 /// What the name means behind the unit's name, and none exactly where the unit hasn't declared it.

@@ -1,28 +1,42 @@
 //! `Scope`: the declarations that stand before a phrase, level by level.
-ghost use Rattle.std.specs.Prelude.{◌≡◌, ◌↔◌, Err, IsTrue, OnErr, OnOk};
+ghost use Rattle.std.specs.Prelude.{◌≡◌, ◌↔◌, ◌++◌, [], ◌∷◌, ℕ, List as Seq, filter, flat_map, reverse, Err, IfOk, IsTrue, OnErr, OnOk};
 ghost use Rattle.std.specs.Option.{option_copied};
-ghost use Rattle.dbpl_symbols.specs.Scopes.{entered, is_declared, left, seen, with_pair};
+ghost use Rattle.dbpl_symbols.specs.Interfaces.{is_own};
+ghost use Rattle.dbpl_symbols.specs.Scopes.{entered, found, innermost, is_declared, last_level, last_start as last_start_of, left, levels, seen, with_pair};
 ghost use Rattle.dbpl_symbols.specs.StandardNames.{own};
 ghost use Rattle.dbpl_symbols.specs.declared.declare_err.DeclareErr.TheVariants as refusals;
 
+use crate::held::Held;
+use crate::places::{add, copy_own, cut, find, from};
 use crate::{Decl, DeclareErr, Origin, Pair};
 use dbpl_base::{List, Memory, Name};
 use std::alloc::Global;
+use std::collections::BTreeMap;
 use std::marker::Model;
 
 /// Declarations in the order of the text, at levels that stand inside one another.
 #[derive(Drop)]
 pub struct Scope {
-    pairs: List<Pair>,
+    held: List<Held>,
+    /// Where each level but the first starts.
     starts: List<usize>,
+    /// Where the latest declaration of each name stands.
+    places: BTreeMap<Name, usize>,
 }
 
 impl Model for Scope {
+    ghost use Rattle.std.specs.Coded.{codes};
+    ghost use Rattle.dbpl_symbols.specs.Places.{IsHeld, pairs_of};
     ghost use Rattle.dbpl_symbols.specs.Scopes.{Declarations};
+    ghost use Rattle.dbpl_symbols.specs.contracts.pair.Pair as pair;
 
     ghost Value = { Declarations };
 
-    ghost view = { λ scope. record { pairs = scope.pairs; starts = scope.starts } };
+    ghost coded = { Prim.hlevel (codes, pair.the_row.coded) };
+
+    ghost view = { λ scope. record { pairs = pairs_of scope.held; starts = scope.starts } };
+
+    ghost invariant = { λ scope. IsHeld scope.held scope.starts scope.places };
 }
 
 impl Scope {
@@ -32,8 +46,9 @@ impl Scope {
         ensures starts { result.starts ≡ [] }
     {
         Scope {
-            pairs: List::new(alloc),
+            held: List::new(alloc),
             starts: List::new(alloc),
+            places: BTreeMap::new(alloc),
         }
     }
 
@@ -41,26 +56,41 @@ impl Scope {
     pub fn look(&self, name: &Name) -> Option<&Decl>
         ensures { option_copied result ≡ seen name.now self.now }
     {
-        match self
-            .pairs
-            .as_slice()
-            .iter()
-            .rev()
-            .find(|pair| pair.name.is(name.as_bytes()))
-        {
-            Some(pair) => Some(&pair.decl),
+        match find(&self.held, &self.places, name) {
+            Some(held) => Some(&held.pair.decl),
             None => None,
         }
     }
 
-    /// Whether the last level has the name.
+    /// Whether the last level has the name. It takes logarithmic time.
     pub fn has(&self, name: &Name) -> bool
         ensures { result ≡ is_declared name.now self.now }
     {
-        false
+        let start = self.last_start();
+        match self.places.get(name) {
+            Some(place) => start <= *place,
+            None => false,
+        }
     }
 
-    /// Declares the name at the last level, unless that has it.
+    /// Where the last level starts.
+    fn last_start(&self) -> usize
+        ensures { result ≡ last_start_of self.now }
+    {
+        match self.starts.as_slice().last() {
+            Some(start) => *start,
+            None => 0,
+        }
+    }
+
+    /// Copies of the declarations that were made at the last level.
+    pub(crate) fn own_pairs(&self, alloc: Global) -> Result<List<Pair>, Memory>
+        ensures { IfOk result (λ pairs. pairs ≡ filter is_own (last_level self.now)) }
+    {
+        copy_own(alloc, from(self.held.as_slice(), self.last_start()))
+    }
+
+    /// Declares the name at the last level, unless that has it. It takes logarithmic time.
     pub fn declare(&mut self, alloc: Global, name: &Name, decl: Decl) -> Result<(), DeclareErr>
         ensures ok { OnOk result (self.new ≡ with_pair (own name.now decl) self.old) }
         ensures err { OnErr result (self.new ≡ self.old) }
@@ -73,7 +103,8 @@ impl Scope {
         Ok(())
     }
 
-    /// Adds a declaration to the last level, whether or not that has the name. From then on the name means this one.
+    /// Adds a declaration to the last level, whether or not that has the name. From then on the name means this one. It
+    /// takes logarithmic time.
     pub fn add(
         &mut self,
         alloc: Global,
@@ -85,7 +116,8 @@ impl Scope {
         ensures err { OnErr result (self.new ≡ self.old) }
     {
         let name = name.copy(alloc)?;
-        self.pairs.push(Pair { name, decl, origin })
+        let pair = Pair { name, decl, origin };
+        add(&mut self.held, &mut self.places, alloc, pair)
     }
 
     /// Adds an empty level.
@@ -93,7 +125,7 @@ impl Scope {
         ensures ok { OnOk result (self.new ≡ entered self.old) }
         ensures err { OnErr result (self.new ≡ self.old) }
     {
-        self.starts.push(self.pairs.len())
+        self.starts.push(self.held.len())
     }
 
     /// Removes the last level with its declarations. The first level stays.
@@ -101,7 +133,17 @@ impl Scope {
         ensures { self.new ≡ left self.old }
     {
         if let Some(start) = self.starts.pop() {
-            self.pairs.truncate(start);
+            cut(&mut self.held, &mut self.places, start);
         }
+    }
+
+    /// A law, which does nothing. The declarations of a scope are those of its levels, one behind the other; to enter adds
+    /// an empty level; a name means the latest declaration at the innermost level that has it.
+    pub fn stands_in_levels(&self)
+        ensures joined { flat_map (λ level. level) (levels self.now) ≡ self.now.pairs }
+        ensures entered { levels (entered self.now) ≡ levels self.now ++ [] ∷ [] }
+        ensures found { (name : Seq ℕ) → found name self.now ≡ innermost name (reverse (levels self.now)) }
+    {
+        let _ = &self.held;
     }
 }

@@ -1,0 +1,10 @@
+-- The front stays, and the places are those of what is held.
+use Rattle.std.proofs.Common.{◌≡◌, length, take}
+use Rattle.dbpl_symbols.specs.Places.{IsIndexed}
+use Rattle.dbpl_symbols.proofs.places.cut.Given as goal
+
+abbrev pub invariant-loop-held : goal.invariant-loop-held
+invariant-loop-held l = (take l.start l.held ≡ take l.start l.fn.held) × IsIndexed l.held l.places
+
+abbrev pub measure-loop-held : goal.measure-loop-held
+measure-loop-held l = length l.held
