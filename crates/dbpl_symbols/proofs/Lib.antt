@@ -1,2 +1,3 @@
+pub mod HeldLaws
 pub mod PlaceLaws
 pub mod ScopeLaws

@@ -1,7 +1,7 @@
 -- Laws of the places of declarations: where the latest of a name stands, and that one more, or one less, keeps the places.
-use Rattle.std.proofs.Common.{◌≡◌, ◌∙◌, ℕ, zero, suc, Bool, true, false, cond, List, [], ◌∷◌, ◌++◌, length, map, drop, reverse, Option, Some, None, refl, ap, sym, subst, arith}
+use Rattle.std.proofs.Common.{◌≡◌, ◌∙◌, ◌+◌, ℕ, zero, suc, Bool, true, false, cond, List, [], ◌∷◌, ◌++◌, length, map, drop, get_or, reverse, take, Option, Some, None, refl, ap, sym, subst, arith}
 use Rattle.std.proofs.lemmas.Grind.{common_steps}
-use Rattle.std.proofs.lemmas.List.{append-nil, append_assoc, length-map, map-append, reverse-append}
+use Rattle.std.proofs.lemmas.List.{append-nil, append_assoc, length-map, map-append, reverse-append, take_all, take_more}
 use Rattle.std.proofs.lemmas.List.Folds.{find-append}
 use Rattle.std.proofs.lemmas.Map.Text.{is_eq-slice_cmp}
 use Rattle.std.proofs.lemmas.Option.{slice_get-map}
@@ -56,7 +56,7 @@ one_further first pairs b None (Some pair) h = absurd h
 one_further first pairs b (Some place) None h = absurd h
 
 is_at_spot : (name : List ℕ) (pairs : List Pair) → IsAt pairs (spot name pairs) (latest name pairs)
-unfolding spot, IsAt
+unfolding spot IsAt
 is_at_spot name [] = tt
 is_at_spot name (pair ∷ pairs) =
     subst (IsAt (pair ∷ pairs) (spot name (pair ∷ pairs))) (sym (latest-cons name pair pairs))
@@ -127,10 +127,10 @@ moved name place old new moves query =
 pub added : (held : List Held) (old new : BTreeMap (List ℕ) ℕ) (one : Held) → IsIndexed held old →
   one.hides ≡ there old one.pair.name → Moves one.pair.name (Some (length held)) old new → IsIndexed (held ++ one ∷ []) new
 added held old new one indexed hides moves = record {
-  links = links-push [] held one indexed.links (hides ∙ indexed.places one.pair.name);
-  places = λ name.
+  links = links-push [] held one indexed.links (hides ∙ indexed.known one.pair.name);
+  known = λ name.
       moved one.pair.name (Some (length held)) old new moves name ∙
-      ap (cond (bytes_eq one.pair.name name) (Some (length held))) (indexed.places name) ∙
+      ap (cond (bytes_eq one.pair.name name) (Some (length held))) (indexed.known name) ∙
       ap (λ n. cond (bytes_eq one.pair.name name) (Some n) (spot name (pairs_of held))) (sym (length-map held (λ one. one.pair))) ∙
       sym (spot-push name (pairs_of held) one.pair) ∙
       ap (spot name) (sym (map-append (λ one. one.pair) held (one ∷ [])));
@@ -146,7 +146,7 @@ last_held : (held : List Held) (one : Held) (places : BTreeMap (List ℕ) ℕ) �
   (name : List ℕ) →
   there places name ≡ cond (bytes_eq one.pair.name name) (Some (length (pairs_of held))) (spot name (pairs_of held))
 last_held held one places indexed name =
-    indexed.places name ∙ ap (spot name) (map-append (λ one. one.pair) held (one ∷ [])) ∙
+    indexed.known name ∙ ap (spot name) (map-append (λ one. one.pair) held (one ∷ [])) ∙
     spot-push name (pairs_of held) one.pair
 
 pub popped : (held : List Held) (one : Held) (old new : BTreeMap (List ℕ) ℕ) → IsIndexed (held ++ one ∷ []) old →
@@ -155,7 +155,7 @@ popped held one old new indexed moves =
     let links = links-pop [] held one indexed.links in
     record {
       links = links.0;
-      places = λ name.
+      known = λ name.
           moved one.pair.name one.hides old new moves name ∙
           ap (λ hides. cond (bytes_eq one.pair.name name) hides (there old name)) links.1 ∙
           ap (cond (bytes_eq one.pair.name name) (spot one.pair.name (pairs_of held))) (last_held held one old indexed name) ∙
@@ -169,11 +169,48 @@ is_there held one places indexed =
     ap (λ b. is_some (cond b (Some (length (pairs_of held))) (spot one.pair.name (pairs_of held))))
     ((bytes_eq-Decides one.pair.name one.pair.name).1 refl)
 
+-- the last one, and those before it
+whole : (held : List Held) (last : ℕ) (one : Held) → length held ≡ last + 1 → one ≡ get_or held last one →
+  held ≡ take last held ++ one ∷ []
+whole held last one n is =
+    sym (take_all (last + 1) held (omega (arith, n))) ∙ take_more held last one (omega (arith, n)) ∙
+    ap (λ item. take last held ++ item ∷ []) (sym is)
+
+split : (held : List Held) (last : ℕ) (one : Held) (places : BTreeMap (List ℕ) ℕ) → length held ≡ last + 1 →
+  one ≡ get_or held last one → IsIndexed held places → IsIndexed (take last held ++ one ∷ []) places
+split held last one places n is indexed = subst (λ all. IsIndexed all places) (whole held last one n is) indexed
+
+pub taken_off : (held : List Held) (last : ℕ) (one : Held) (old new : BTreeMap (List ℕ) ℕ) → length held ≡ last + 1 →
+  one ≡ get_or held last one → IsIndexed held old → Moves one.pair.name one.hides old new → IsIndexed (take last held) new
+taken_off held last one old new n is indexed moves =
+    popped (take last held) one old new (split held last one old n is indexed) moves
+
+pub last_is_there : (held : List Held) (last : ℕ) (one : Held) (places : BTreeMap (List ℕ) ℕ) → length held ≡ last + 1 →
+  one ≡ get_or held last one → IsIndexed held places → IsSome (there places one.pair.name)
+last_is_there held last one places n is indexed =
+    is_there (take last held) one places (split held last one places n is indexed)
+
 pub undone : (held : List Held) (old new : BTreeMap (List ℕ) ℕ) → IsIndexed held old → IsUnchanged old new → IsIndexed held new
 undone held old new indexed same = record {
   links = indexed.links;
-  places = λ name. ap (lookup (is_at (slice_cmp nat_cmp name))) same ∙ indexed.places name;
+  known = λ name. ap (lookup (is_at (slice_cmp nat_cmp name))) same ∙ indexed.known name;
 }
+
+-- the same with what is known where one was added
+pub added_noted : (held now : List Held) (old new : BTreeMap (List ℕ) ℕ) (one : Held) (name : List ℕ) (place : ℕ) →
+  IsIndexed held old → one.hides ≡ there old one.pair.name → name ≡ one.pair.name → place ≡ length held →
+  now ≡ held ++ one ∷ [] → Moves name (Some place) old new → IsIndexed now new
+added_noted held now old new one name place indexed hides named placed grown moves =
+    let at_end : Moves name (Some (length held)) old new =
+        subst (λ n. Moves name (Some n) old new) placed moves in
+    let own : Moves one.pair.name (Some (length held)) old new =
+        subst (λ text. Moves text (Some (length held)) old new) named at_end in
+    subst (λ all. IsIndexed all new) (sym grown) (added held old new one indexed hides own)
+
+pub undone_noted : (held now : List Held) (old new : BTreeMap (List ℕ) ℕ) → IsIndexed held old → now ≡ held →
+  IsUnchanged old new → IsIndexed now new
+undone_noted held now old new indexed back same =
+    subst (λ all. IsIndexed all new) (sym back) (undone held old new indexed same)
 
 -- ---- what a look-up finds
 
@@ -185,7 +222,7 @@ read_pair held (Some place) = slice_get-map (λ one. one.pair) held place
 pub found_at : (held : List Held) (places : BTreeMap (List ℕ) ℕ) → IsIndexed held places → (name : List ℕ) →
   latest name (pairs_of held) ≡ option_map (λ one. one.pair) (option_and_then (slice_get held) (there places name))
 found_at held places indexed name =
-    latest-at name (pairs_of held) ∙ ap (option_and_then (slice_get (pairs_of held))) (sym (indexed.places name)) ∙
+    latest-at name (pairs_of held) ∙ ap (option_and_then (slice_get (pairs_of held))) (sym (indexed.known name)) ∙
     read_pair held (there places name)
 
 -- whether it stands at this start or behind it
@@ -193,4 +230,4 @@ pub stands_at : (held : List Held) (places : BTreeMap (List ℕ) ℕ) → IsInde
   is_some (latest name (drop start (pairs_of held))) ≡ option_map_or (nat_le start) (there places name) false
 stands_at held places indexed name start =
     latest-drop name start (pairs_of held) ∙
-    ap (λ o. option_map_or (nat_le start) o false) (sym (indexed.places name))
+    ap (λ o. option_map_or (nat_le start) o false) (sym (indexed.known name))

@@ -25,7 +25,7 @@ front-push xs x = take_at xs (x ∷ []) (length (xs ++ x ∷ []) - 1) (sym (shor
 
 -- ---- what is left
 
-abbrev scope_of : List Pair → List ℕ → Declarations
+abbrev pub scope_of : List Pair → List ℕ → Declarations
 scope_of pairs starts = record { pairs = pairs; starts = starts }
 
 abbrev left_at : Declarations → ℕ → Declarations

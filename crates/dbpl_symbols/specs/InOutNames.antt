@@ -1,5 +1,6 @@
 -- What the module InOut shows: procedures that read and print, and the variable Done.
 use Rattle.std.specs.Prelude.{ℕ, Bool, true, false, List, [], ◌∷◌, ◌++◌, Option, Some, None, codes}
+use Rattle.dbpl_symbols.specs.Interfaces.{exports_of}
 use Rattle.dbpl_symbols.specs.StandardNames.{own}
 use Rattle.dbpl_symbols.specs.declared.decl.Decl.TheVariants as decls
 use Rattle.dbpl_symbols.specs.declared.exports.Exports.{Exports}
@@ -54,4 +55,4 @@ in_out_pairs = reading_pairs ++ writing_pairs ++ own (codes "Done") (decls.Varia
 
 -- THE interface of InOut
 abbrev pub in_out_exports : Exports
-in_out_exports = record { «module» = codes "InOut"; pairs = in_out_pairs }
+in_out_exports = exports_of (codes "InOut") in_out_pairs

@@ -25,7 +25,7 @@ AreLinked before (one ∷ held) = (one.hides ≡ spot one.pair.name before) × A
 -- and the map knows the place of the latest of each name
 pub record IsIndexed (held : List Held) (places : BTreeMap (List ℕ) ℕ) : Type 0 where
   pub links : AreLinked [] held
-  pub places : (name : List ℕ) → get (slice_cmp nat_cmp) places name ≡ spot name (pairs_of held)
+  pub known : (name : List ℕ) → get (slice_cmp nat_cmp) places name ≡ spot name (pairs_of held)
 
 -- one map is the other with this place for one name, or with none
 abbrev pub Moves : List ℕ → Option ℕ → BTreeMap (List ℕ) ℕ → BTreeMap (List ℕ) ℕ → Type 0

@@ -46,6 +46,10 @@ is_declared name scope = is_some (latest name (last_level scope))
 
 -- ---- what changes a scope
 
+-- one level, which is empty
+abbrev pub empty_scope : Declarations
+empty_scope = record { pairs = []; starts = [] }
+
 -- THE scope with one more declaration, at its last level
 abbrev pub with_pair : Pair → Declarations → Declarations
 with_pair pair scope = record scope { pairs = scope.pairs ++ pair ∷ [] }

@@ -1,6 +1,6 @@
 -- The standard names, which every text knows and may declare anew.
 use Rattle.std.specs.Prelude.{ℕ, List, [], ◌∷◌, ◌++◌, pos, codes}
-use Rattle.dbpl_symbols.specs.Scopes.{Declarations}
+use Rattle.dbpl_symbols.specs.Scopes.{Declarations, with_pair}
 use Rattle.dbpl_symbols.specs.declared.decl.Decl.{Decl}
 use Rattle.dbpl_symbols.specs.declared.decl.Decl.TheVariants as decls
 use Rattle.dbpl_symbols.specs.declared.origin.Origin.TheVariants as origins
@@ -48,6 +48,11 @@ procedure_pairs =
 -- THE standard names with what they mean
 abbrev pub standard_pairs : List Pair
 standard_pairs = type_pairs ++ truth_pairs ++ function_pairs ++ procedure_pairs
+
+-- the scope with each of these added in turn
+abbrev pub declared_in_turn : List Pair → Declarations → Declarations
+declared_in_turn [] scope = scope
+declared_in_turn (pair ∷ pairs) scope = declared_in_turn pairs (with_pair pair scope)
 
 -- THE scope with which every text begins: one level, that of the standard names
 abbrev pub standard_scope : Declarations

@@ -29,7 +29,8 @@ fn add_reading(alloc: Global, pairs: &mut List<Pair>) -> Result<(), Memory>
     let params = one_param(alloc, var_param(alloc, b"x", DbType::Int)?)?;
     add_routine(alloc, pairs, InOutRoutine::ReadInt, b"ReadInt", params)?;
     let params = one_param(alloc, var_param(alloc, b"x", DbType::Card)?)?;
-    add_routine(alloc, pairs, InOutRoutine::ReadCard, b"ReadCard", params)
+    add_routine(alloc, pairs, InOutRoutine::ReadCard, b"ReadCard", params)?;
+    Ok(())
 }
 
 fn add_writing(alloc: Global, pairs: &mut List<Pair>) -> Result<(), Memory>
@@ -43,7 +44,8 @@ fn add_writing(alloc: Global, pairs: &mut List<Pair>) -> Result<(), Memory>
     let params = number_params(alloc, DbType::Int)?;
     add_routine(alloc, pairs, InOutRoutine::WriteInt, b"WriteInt", params)?;
     let params = number_params(alloc, DbType::Card)?;
-    add_routine(alloc, pairs, InOutRoutine::WriteCard, b"WriteCard", params)
+    add_routine(alloc, pairs, InOutRoutine::WriteCard, b"WriteCard", params)?;
+    Ok(())
 }
 
 /// A procedure with its heading.

@@ -1,6 +1,6 @@
 //! The places of declarations: where the latest of a name stands among those that are held.
-ghost use Rattle.std.specs.Prelude.{◌≡◌, ◌++◌, [], ◌∷◌, drop, filter, slice_get, take, IfOk, IsSome, OnErr, OnOk};
-ghost use Rattle.std.specs.BTreeMap.{get};
+ghost use Rattle.std.specs.Prelude.{◌≡◌, ◌<◌, ◌-◌, ◌++◌, [], ◌∷◌, drop, filter, length, slice_get, take, IfOk, IsSome, OnErr, OnOk};
+ghost use Rattle.std.specs.BTreeMap.{IsUnchanged, get};
 ghost use Rattle.std.specs.Cmp.Lexicographic.{slice_cmp};
 ghost use Rattle.std.specs.Option.{option_and_then, option_copied};
 ghost use Rattle.std.specs.Ordering.{nat_cmp};
@@ -44,26 +44,47 @@ pub(crate) fn add(
     let hides = places.get(&pair.name).copied();
     let place = held.len();
     held.push(Held { pair, hides })?;
-    match places.insert(name, place) {
-        Ok(_) => Ok(()),
-        Err(_) => {
+    match note(places, name, place) {
+        Ok(()) => Ok(()),
+        Err(refusal) => {
             held.truncate(place);
-            Err(Memory)
+            Err(refusal)
         }
     }
 }
 
+/// Gives the name this place.
+fn note(places: &mut BTreeMap<Name, usize>, name: Name, place: usize) -> Result<(), Memory>
+    ensures ok { OnOk result (Moves name (Some place) places.old places.new) }
+    ensures err { OnErr result (IsUnchanged places.old places.new) }
+{
+    places.insert(name, place)?;
+    Ok(())
+}
+
 /// Keeps so many declarations. What the others hid is found again.
+#[tactic(auto, using(crate::proofs::HeldLaws::cut_more, crate::proofs::HeldLaws::cut_all))]
 pub(crate) fn cut(held: &mut List<Held>, places: &mut BTreeMap<Name, usize>, start: usize)
     requires { IsIndexed held.old places.old }
     ensures indexed { IsIndexed held.new places.new }
     ensures front { held.new ≡ take start held.old }
 {
     while held.len() > start {
-        if let Some(last) = held.pop() {
-            restore(places, &last);
-        }
+        take_off(held, places);
     }
+}
+
+/// Takes the last declaration off.
+fn take_off(held: &mut List<Held>, places: &mut BTreeMap<Name, usize>)
+    requires some { 0 < length held.old }
+    requires indexed { IsIndexed held.old places.old }
+    ensures front { held.new ≡ take (length held.old - 1) held.old }
+    ensures indexed { IsIndexed held.new places.new }
+{
+    let last = held.len() - 1;
+    let all = held.as_slice();
+    restore(places, &all[last]);
+    held.truncate(last);
 }
 
 /// What stands from a place on.

@@ -2,7 +2,7 @@
 ghost use Rattle.std.specs.Prelude.{◌≡◌, ◌↔◌, ◌++◌, [], ◌∷◌, ℕ, List as Seq, filter, flat_map, reverse, Err, IfOk, IsTrue, OnErr, OnOk};
 ghost use Rattle.std.specs.Option.{option_copied};
 ghost use Rattle.dbpl_symbols.specs.Interfaces.{is_own};
-ghost use Rattle.dbpl_symbols.specs.Scopes.{entered, found, innermost, is_declared, last_level, last_start as last_start_of, left, levels, seen, with_pair};
+ghost use Rattle.dbpl_symbols.specs.Scopes.{empty_scope, entered, found, innermost, is_declared, last_level, last_start as last_start_of, left, levels, seen, with_pair};
 ghost use Rattle.dbpl_symbols.specs.StandardNames.{own};
 ghost use Rattle.dbpl_symbols.specs.declared.declare_err.DeclareErr.TheVariants as refusals;
 
@@ -42,13 +42,15 @@ impl Model for Scope {
 impl Scope {
     /// A scope with one level, which is empty.
     pub(crate) fn new(alloc: Global) -> Scope
-        ensures pairs { result.pairs ≡ [] }
-        ensures starts { result.starts ≡ [] }
+        ensures { result ≡ empty_scope }
     {
+        let held = List::new(alloc);
+        let starts = List::new(alloc);
+        let places = BTreeMap::new(alloc);
         Scope {
-            held: List::new(alloc),
-            starts: List::new(alloc),
-            places: BTreeMap::new(alloc),
+            held,
+            starts,
+            places,
         }
     }
 
@@ -87,7 +89,10 @@ impl Scope {
     pub(crate) fn own_pairs(&self, alloc: Global) -> Result<List<Pair>, Memory>
         ensures { IfOk result (λ pairs. pairs ≡ filter is_own (last_level self.now)) }
     {
-        copy_own(alloc, from(self.held.as_slice(), self.last_start()))
+        let start = self.last_start();
+        let level = from(self.held.as_slice(), start);
+        let pairs = copy_own(alloc, level)?;
+        Ok(pairs)
     }
 
     /// Declares the name at the last level, unless that has it. It takes logarithmic time.

@@ -1,7 +1,7 @@
 //! The standard names.
 ghost use Rattle.std.specs.Prelude.{◌≡◌, IfOk, OnOk};
-ghost use Rattle.dbpl_symbols.specs.Scopes.{with_pair, with_pairs};
-ghost use Rattle.dbpl_symbols.specs.StandardNames.{function_pairs, own, procedure_pairs, standard_scope, truth_pairs, type_pairs};
+ghost use Rattle.dbpl_symbols.specs.Scopes.{with_pair};
+ghost use Rattle.dbpl_symbols.specs.StandardNames.{declared_in_turn, function_pairs, own, procedure_pairs, standard_scope, truth_pairs, type_pairs};
 ghost use Rattle.dbpl_symbols.specs.declared.decl.Decl.TheVariants as decls;
 ghost use Rattle.dbpl_value.specs.declared.db_type.DbType.TheVariants as kinds;
 
@@ -23,23 +23,25 @@ pub fn make_scope(alloc: Global) -> Result<Scope, Memory>
 }
 
 fn add_types(alloc: Global, scope: &mut Scope) -> Result<(), Memory>
-    ensures { OnOk result (scope.new ≡ with_pairs type_pairs scope.old) }
+    ensures { OnOk result (scope.new ≡ declared_in_turn type_pairs scope.old) }
 {
     add_type(alloc, scope, b"INTEGER", DbType::Int)?;
     add_type(alloc, scope, b"CARDINAL", DbType::Card)?;
     add_type(alloc, scope, b"BOOLEAN", DbType::Bool)?;
-    add_type(alloc, scope, b"CHAR", DbType::Char)
+    add_type(alloc, scope, b"CHAR", DbType::Char)?;
+    Ok(())
 }
 
 fn add_truth_values(alloc: Global, scope: &mut Scope) -> Result<(), Memory>
-    ensures { OnOk result (scope.new ≡ with_pairs truth_pairs scope.old) }
+    ensures { OnOk result (scope.new ≡ declared_in_turn truth_pairs scope.old) }
 {
     add_truth_value(alloc, scope, b"FALSE", 0)?;
-    add_truth_value(alloc, scope, b"TRUE", 1)
+    add_truth_value(alloc, scope, b"TRUE", 1)?;
+    Ok(())
 }
 
 fn add_functions(alloc: Global, scope: &mut Scope) -> Result<(), Memory>
-    ensures { OnOk result (scope.new ≡ with_pairs function_pairs scope.old) }
+    ensures { OnOk result (scope.new ≡ declared_in_turn function_pairs scope.old) }
 {
     add_standard(alloc, scope, b"ABS", StandardProcedure::Abs)?;
     add_standard(alloc, scope, b"ODD", StandardProcedure::Odd)?;
@@ -49,16 +51,18 @@ fn add_functions(alloc: Global, scope: &mut Scope) -> Result<(), Memory>
     add_standard(alloc, scope, b"VAL", StandardProcedure::Val)?;
     add_standard(alloc, scope, b"MIN", StandardProcedure::Min)?;
     add_standard(alloc, scope, b"MAX", StandardProcedure::Max)?;
-    add_standard(alloc, scope, b"CARD", StandardProcedure::Card)
+    add_standard(alloc, scope, b"CARD", StandardProcedure::Card)?;
+    Ok(())
 }
 
 fn add_procedures(alloc: Global, scope: &mut Scope) -> Result<(), Memory>
-    ensures { OnOk result (scope.new ≡ with_pairs procedure_pairs scope.old) }
+    ensures { OnOk result (scope.new ≡ declared_in_turn procedure_pairs scope.old) }
 {
     add_standard(alloc, scope, b"INC", StandardProcedure::Inc)?;
     add_standard(alloc, scope, b"DEC", StandardProcedure::Dec)?;
     add_standard(alloc, scope, b"HALT", StandardProcedure::Halt)?;
-    add_standard(alloc, scope, b"ABORT", StandardProcedure::Abort)
+    add_standard(alloc, scope, b"ABORT", StandardProcedure::Abort)?;
+    Ok(())
 }
 
 fn add_type(alloc: Global, scope: &mut Scope, name: &[u8], kind: DbType) -> Result<(), Memory>

@@ -6,5 +6,5 @@ use Rattle.dbpl_symbols.proofs.places.cut.Given as goal
 abbrev pub invariant-loop-held : goal.invariant-loop-held
 invariant-loop-held l = (take l.start l.held ≡ take l.start l.fn.held) × IsIndexed l.held l.places
 
-abbrev pub measure-loop-held : goal.measure-loop-held
-measure-loop-held l = length l.held
+abbrev pub decreases-loop-held : goal.decreases-loop-held
+decreases-loop-held l = length l.held
