@@ -32,7 +32,7 @@ abbrev left_at : Declarations → ℕ → Declarations
 left_at scope start = scope_of (take start scope.pairs) (take (length scope.starts - 1) scope.starts)
 
 pub left-push : (pairs : List Pair) (starts : List ℕ) (start : ℕ) →
-  left (scope_of pairs (starts ++ start ∷ [])) ≡ scope_of (take start pairs) starts
+    left (scope_of pairs (starts ++ start ∷ [])) ≡ scope_of (take start pairs) starts
 left-push pairs starts start =
     let scope : Declarations = scope_of pairs (starts ++ start ∷ []) in
     ap (λ last. option_map_or (left_at scope) last scope) (last-push starts start) ∙
@@ -47,7 +47,7 @@ left_again scope more =
 -- ---- levels
 
 entered-from : (starts : List ℕ) (start : ℕ) (pairs : List Pair) →
-  levels_from start (starts ++ length pairs ∷ []) pairs ≡ levels_from start starts pairs ++ [] ∷ []
+    levels_from start (starts ++ length pairs ∷ []) pairs ≡ levels_from start starts pairs ++ [] ∷ []
 entered-from [] start pairs = ap₂ (λ level end. level ∷ end ∷ []) (take_rest pairs start) (drop-length pairs)
 entered-from (next ∷ starts) start pairs =
     ap (λ inner. take (next - start) (drop start pairs) ∷ inner) (entered-from starts next pairs)
@@ -55,12 +55,11 @@ entered-from (next ∷ starts) start pairs =
 pub levels-entered : (scope : Declarations) → levels (entered scope) ≡ levels scope ++ [] ∷ []
 levels-entered scope = entered-from scope.starts 0 scope.pairs
 
-
 up : (start next : ℕ) → start ≤ next → next ≡ start + (next - start)
 up start next h = omega arith
 
 joined-from : (starts : List ℕ) (start : ℕ) (pairs : List Pair) → RiseTo (length pairs) start starts →
-  flat_map (λ level. level) (levels_from start starts pairs) ≡ drop start pairs
+    flat_map (λ level. level) (levels_from start starts pairs) ≡ drop start pairs
 joined-from [] start pairs rise = append-nil (drop start pairs)
 joined-from (next ∷ starts) start pairs rise =
     ap (λ inner. take (next - start) (drop start pairs) ++ inner)
@@ -69,13 +68,13 @@ joined-from (next ∷ starts) start pairs rise =
     take-append-drop (next - start) (drop start pairs)
 
 pub levels-joined : (scope : Declarations) → RiseTo (length scope.pairs) 0 scope.starts →
-  flat_map (λ level. level) (levels scope) ≡ scope.pairs
+    flat_map (λ level. level) (levels scope) ≡ scope.pairs
 levels-joined scope rise = joined-from scope.starts 0 scope.pairs rise
 
 -- ---- the innermost level that has a name
 
 latest-append : (name : List ℕ) (pairs more : List Pair) →
-  latest name (pairs ++ more) ≡ option_or (latest name more) (latest name pairs)
+    latest name (pairs ++ more) ≡ option_or (latest name more) (latest name pairs)
 latest-append name pairs more =
     ap (find (is_named name)) (reverse-append pairs more) ∙ find-append (is_named name) (reverse more) (reverse pairs)
 
@@ -88,14 +87,14 @@ or_or None b c = refl
 or_or (Some x) b c = refl
 
 innermost-push : (name : List ℕ) (inner : List (List Pair)) (level : List Pair) →
-  innermost name (inner ++ level ∷ []) ≡ option_or (innermost name inner) (latest name level)
+    innermost name (inner ++ level ∷ []) ≡ option_or (innermost name inner) (latest name level)
 innermost-push name [] level = or_none (latest name level)
 innermost-push name (first ∷ inner) level =
     ap (option_or (latest name first)) (innermost-push name inner level) ∙
     or_or (latest name first) (innermost name inner) (latest name level)
 
 joined-found : (name : List ℕ) (ls : List (List Pair)) →
-  latest name (flat_map (λ level. level) ls) ≡ innermost name (reverse ls)
+    latest name (flat_map (λ level. level) ls) ≡ innermost name (reverse ls)
 joined-found name [] = refl
 joined-found name (level ∷ ls) =
     latest-append name level (flat_map (λ level. level) ls) ∙
@@ -103,7 +102,7 @@ joined-found name (level ∷ ls) =
     sym (ap (innermost name) (reverse-append (level ∷ []) ls) ∙ innermost-push name (reverse ls) level)
 
 pub found-innermost : (name : List ℕ) (scope : Declarations) → RiseTo (length scope.pairs) 0 scope.starts →
-  found name scope ≡ innermost name (reverse (levels scope))
+    found name scope ≡ innermost name (reverse (levels scope))
 found-innermost name scope rise =
     ap (latest name) (sym (levels-joined scope rise)) ∙ joined-found name (levels scope)
 
@@ -114,12 +113,12 @@ rise-enter [] start high rise = (rise, omega arith)
 rise-enter (next ∷ starts) start high rise = (rise.0, rise-enter starts next high rise.1)
 
 pub rise-more : (starts : List ℕ) (start high higher : ℕ) → high ≤ higher → RiseTo high start starts →
-  RiseTo higher start starts
+    RiseTo higher start starts
 rise-more [] start high higher h rise = omega arith
 rise-more (next ∷ starts) start high higher h rise = (rise.0, rise-more starts next high higher h rise.1)
 
 pub rise-leave : (starts : List ℕ) (start high last : ℕ) → RiseTo high start (starts ++ last ∷ []) →
-  RiseTo last start starts × (last ≤ high)
+    RiseTo last start starts × (last ≤ high)
 rise-leave [] start high last rise = (rise.0, rise.1)
 rise-leave (next ∷ starts) start high last rise =
     let below = rise-leave starts next high last rise.1 in ((rise.0, below.0), below.1)

@@ -38,7 +38,13 @@ fn add_writing(alloc: Global, pairs: &mut List<Pair>) -> Result<(), Memory>
 {
     let params = one_param(alloc, value_param(alloc, b"c", DbType::Char)?)?;
     add_routine(alloc, pairs, InOutRoutine::Write, b"Write", params)?;
-    add_routine(alloc, pairs, InOutRoutine::WriteLn, b"WriteLn", List::new(alloc))?;
+    add_routine(
+        alloc,
+        pairs,
+        InOutRoutine::WriteLn,
+        b"WriteLn",
+        List::new(alloc),
+    )?;
     let string = Decl::InOut(InOutRoutine::WriteString, None);
     add_name(alloc, pairs, b"WriteString", string)?;
     let params = number_params(alloc, DbType::Int)?;
@@ -70,12 +76,7 @@ fn add_routine(
     add_name(alloc, pairs, name, Decl::InOut(routine, Some(head)))
 }
 
-fn add_name(
-    alloc: Global,
-    pairs: &mut List<Pair>,
-    name: &[u8],
-    decl: Decl,
-) -> Result<(), Memory>
+fn add_name(alloc: Global, pairs: &mut List<Pair>, name: &[u8], decl: Decl) -> Result<(), Memory>
     ensures { OnOk result (pairs.new ≡ pairs.old ++ own name.now decl ∷ []) }
 {
     let name = name_of(alloc, name)?;

@@ -18,6 +18,8 @@ mod scope;
 mod sort;
 mod standard_names;
 mod standard_procedure;
+#[cfg(test)]
+mod tests;
 
 pub use copies::{copy_decl, copy_sort};
 pub use decl::Decl;

@@ -7,9 +7,9 @@ ghost use Rattle.std.specs.Ordering.{nat_cmp};
 ghost use Rattle.dbpl_symbols.specs.Interfaces.{is_own};
 ghost use Rattle.dbpl_symbols.specs.Places.{IsIndexed, Moves, pairs_of};
 
+use crate::Pair;
 use crate::copies::copy_pair;
 use crate::held::Held;
-use crate::Pair;
 use dbpl_base::{List, Memory, Name};
 use std::alloc::Global;
 use std::collections::BTreeMap;

@@ -72,12 +72,7 @@ fn add_type(alloc: Global, scope: &mut Scope, name: &[u8], kind: DbType) -> Resu
     add_name(alloc, scope, name, Decl::Kind(kind))
 }
 
-fn add_truth_value(
-    alloc: Global,
-    scope: &mut Scope,
-    name: &[u8],
-    number: i64,
-) -> Result<(), Memory>
+fn add_truth_value(alloc: Global, scope: &mut Scope, name: &[u8], number: i64) -> Result<(), Memory>
     ensures { OnOk result (scope.new ≡ with_pair (own name.now (decls.Num kinds.Bool number)) scope.old) }
 {
     let kind = Shared::new(alloc, DbType::Bool)?;

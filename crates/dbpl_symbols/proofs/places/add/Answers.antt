@@ -16,5 +16,5 @@ returns-in-Err-clause-indexed c =
     let one : Held = record { pair = c.args.pair; hides = c.copied-hides.result } in
     undone_noted c.args.held.now c.truncate.new.self c.args.places.now c.note.new.places c.requires
     (c.truncate.ensures ∙ ap (take c.len-place.result) c.in_ok-push.ensures.ok ∙
-      take_at c.args.held.now (one ∷ []) c.len-place.result (sym c.len-place.ensures))
+    take_at c.args.held.now (one ∷ []) c.len-place.result (sym c.len-place.ensures))
     c.in-Err.ensures.err

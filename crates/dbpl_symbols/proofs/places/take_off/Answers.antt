@@ -8,7 +8,7 @@ restore-requires c =
     let n : length c.args.held.now ≡ (c.len.result - 1) + 1 = omega (arith, c.len.ensures, c.requires.some) in
     let one = c.index-all-last.result in
     let is : one ≡ get_or c.args.held.now (c.len.result - 1) one =
-        subst (λ all. one ≡ get_or all (c.len.result - 1) one) c.as_slice-all.ensures c.index-all-last.is in
+    subst (λ all. one ≡ get_or all (c.len.result - 1) one) c.as_slice-all.ensures c.index-all-last.is in
     last_is_there c.args.held.now (c.len.result - 1) one c.args.places.now n is c.requires.indexed
 
 pub returns-clause-indexed : goal.returns-clause-indexed
@@ -16,7 +16,7 @@ returns-clause-indexed c =
     let n : length c.args.held.now ≡ (c.len.result - 1) + 1 = omega (arith, c.len.ensures, c.requires.some) in
     let one = c.index-all-last.result in
     let is : one ≡ get_or c.args.held.now (c.len.result - 1) one =
-        subst (λ all. one ≡ get_or all (c.len.result - 1) one) c.as_slice-all.ensures c.index-all-last.is in
+    subst (λ all. one ≡ get_or all (c.len.result - 1) one) c.as_slice-all.ensures c.index-all-last.is in
     subst (λ all. IsIndexed all c.restore.new.places) (sym c.truncate.ensures)
     (taken_off c.args.held.now (c.len.result - 1) one c.args.places.now c.restore.new.places n is c.requires.indexed
-      c.restore.ensures)
+    c.restore.ensures)

@@ -10,4 +10,4 @@ returns c =
     let P : Declarations → Type 0 = λ scope. c.in_ok-pairs.pairs ≡ filter is_own (drop start scope.pairs) in
     subst P c.self.view_is
     (own_of c.in_ok-pairs.pairs c.self.inside.held c.from-level.result.now c.as_slice.result.now c.last_start-start.result start
-      c.in_ok-pairs.ensures c.from-level.ensures c.as_slice.ensures c.last_start-start.ensures)
+    c.in_ok-pairs.ensures c.from-level.ensures c.as_slice.ensures c.last_start-start.ensures)
