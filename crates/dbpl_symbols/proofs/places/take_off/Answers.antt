@@ -5,18 +5,18 @@ use Rattle.dbpl_symbols.proofs.places.take_off.Goals as goal
 
 pub restore-requires : goal.restore-requires
 restore-requires c =
-    let n : length c.args.held.now ≡ (c.len.result - 1) + 1 = omega (arith, c.len.ensures, c.requires.some) in
+    let n : length c.args.held.now ≡ (c.len-last.result - 1) + 1 = omega (arith, c.len-last.ensures, c.requires.some) in
     let one = c.index-all-last.result in
-    let is : one ≡ get_or c.args.held.now (c.len.result - 1) one =
-    subst (λ all. one ≡ get_or all (c.len.result - 1) one) c.as_slice-all.ensures c.index-all-last.is in
-    last_is_there c.args.held.now (c.len.result - 1) one c.args.places.now n is c.requires.indexed
+    let is : one ≡ get_or c.args.held.now (c.len-last.result - 1) one =
+    subst (λ all. one ≡ get_or all (c.len-last.result - 1) one) c.as_slice-all.ensures c.index-all-last.is in
+    last_is_there c.args.held.now (c.len-last.result - 1) one c.args.places.now n is c.requires.indexed
 
 pub returns-clause-indexed : goal.returns-clause-indexed
 returns-clause-indexed c =
-    let n : length c.args.held.now ≡ (c.len.result - 1) + 1 = omega (arith, c.len.ensures, c.requires.some) in
+    let n : length c.args.held.now ≡ (c.len-last.result - 1) + 1 = omega (arith, c.len-last.ensures, c.requires.some) in
     let one = c.index-all-last.result in
-    let is : one ≡ get_or c.args.held.now (c.len.result - 1) one =
-    subst (λ all. one ≡ get_or all (c.len.result - 1) one) c.as_slice-all.ensures c.index-all-last.is in
+    let is : one ≡ get_or c.args.held.now (c.len-last.result - 1) one =
+    subst (λ all. one ≡ get_or all (c.len-last.result - 1) one) c.as_slice-all.ensures c.index-all-last.is in
     subst (λ all. IsIndexed all c.restore.new.places) (sym c.truncate.ensures)
-    (taken_off c.args.held.now (c.len.result - 1) one c.args.places.now c.restore.new.places n is c.requires.indexed
+    (taken_off c.args.held.now (c.len-last.result - 1) one c.args.places.now c.restore.new.places n is c.requires.indexed
     c.restore.ensures)
