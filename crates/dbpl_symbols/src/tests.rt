@@ -1,4 +1,5 @@
-// With ample memory each call has its answer, also where there are many names.
+// With ample memory each call has its answer, also where there are many names. Each row is a function of its own, so that
+// few values are alive in it.
 use crate::{
     Decl, DeclareErr, Exports, Origin, Scope, Sort, copy_decl, exported, in_out, interface,
     make_scope,
@@ -17,14 +18,77 @@ fn number(decl: Option<&Decl>) -> Option<i64> {
     }
 }
 
-/// What the name of these bytes means, where that is a constant.
-fn seen(alloc: Global, scope: &Scope, name: &[u8]) -> Result<Option<i64>, Memory> {
-    Ok(number(scope.look(&name_of(alloc, name)?)))
+/// Whether the name is declared as this number, and not refused as declared twice.
+fn is_added(alloc: Global, scope: &mut Scope, name: &Name, number: i64) -> Result<bool, Memory> {
+    match scope.declare(alloc, name, Decl::Whole(number)) {
+        Ok(()) => Ok(true),
+        Err(DeclareErr::Twice) => Ok(false),
+        Err(DeclareErr::Memory) => Err(Memory),
+    }
 }
 
-/// Whether InOut exports a name of these bytes.
-fn is_exported(alloc: Global, exports: &Exports, name: &[u8]) -> Result<bool, Memory> {
+/// A name is declared twice at one level, then once at the next, and that level is left.
+fn levels(alloc: Global) -> Result<bool, Memory> {
+    let x = name_of(alloc, b"x")?;
+    let mut scope = make_scope(alloc)?;
+    scope.enter()?;
+    let first = is_added(alloc, &mut scope, &x, 1)?;
+    let second = is_added(alloc, &mut scope, &x, 2)?;
+    scope.enter()?;
+    let inner = is_added(alloc, &mut scope, &x, 3)?;
+    let inside = number(scope.look(&x));
+    scope.leave();
+    let outside = number(scope.look(&x));
+    scope.leave();
+    scope.leave();
+    let nowhere = scope.look(&x).is_none();
+    Ok(first && !second && inner && inside == Some(3) && outside == Some(1) && nowhere)
+}
+
+/// Imports a variable of this name, by a copy of its declaration.
+fn import_variable(alloc: Global, scope: &mut Scope, name: &Name) -> Result<(), Memory> {
+    let kind = Shared::new(alloc, DbType::Card)?;
+    let decl = copy_decl(&Decl::Variable(kind, Sort::Param(3)))?;
+    scope.add(alloc, name, decl, Origin::Imported)
+}
+
+/// FALSE is found before anything is declared, and a variable INTEGER hides the type.
+fn standard_names(alloc: Global) -> Result<bool, Memory> {
+    let integer = name_of(alloc, b"INTEGER")?;
+    let constant = name_of(alloc, b"FALSE")?;
+    let mut scope = make_scope(alloc)?;
+    let is_false = number(scope.look(&constant)) == Some(0);
+    let is_type = matches!(scope.look(&integer), Some(Decl::Kind(_)));
+    scope.enter()?;
+    import_variable(alloc, &mut scope, &integer)?;
+    let is_hidden = matches!(
+        scope.look(&integer),
+        Some(Decl::Variable(_, Sort::Param(3)))
+    );
+    Ok(is_false && is_type && is_hidden)
+}
+
+/// Whether the interface has a name of these bytes.
+fn is_shown(alloc: Global, exports: &Exports, name: &[u8]) -> Result<bool, Memory> {
     Ok(exported(exports, &name_of(alloc, name)?).is_some())
+}
+
+/// What a unit declared is shown, and what it imported isn't.
+fn own_interface(alloc: Global) -> Result<bool, Memory> {
+    let x = name_of(alloc, b"x")?;
+    let unit = Shared::new(alloc, name_of(alloc, b"M")?)?;
+    let mut scope = make_scope(alloc)?;
+    scope.enter()?;
+    import_variable(alloc, &mut scope, unit.get())?;
+    let added = is_added(alloc, &mut scope, &x, 1)?;
+    let exports = interface(alloc, &unit, &scope)?;
+    Ok(added && exports.pairs.len() == 1 && is_shown(alloc, &exports, b"x")?)
+}
+
+fn in_out_interface(alloc: Global) -> Result<bool, Memory> {
+    let exports = in_out(alloc)?;
+    let is_last = is_shown(alloc, &exports, b"Done")?;
+    Ok(exports.pairs.len() == 9 && is_last && is_shown(alloc, &exports, b"WriteString")?)
 }
 
 /// A name for each number.
@@ -59,47 +123,25 @@ fn are_found(alloc: Global, scope: &Scope, count: u32) -> Result<bool, Memory> {
     Ok(true)
 }
 
+/// Many names are declared, hidden at a further level, and found again when that is left.
+fn many(alloc: Global, count: u32) -> Result<bool, Memory> {
+    let mut scope = make_scope(alloc)?;
+    scope.enter()?;
+    declare_many(alloc, &mut scope, count)?;
+    scope.enter()?;
+    hide_many(alloc, &mut scope, count)?;
+    let hidden = !are_found(alloc, &scope, 1)?;
+    scope.leave();
+    Ok(hidden && are_found(alloc, &scope, count)?)
+}
+
 #[test]
 fn names_are_found(rt: HostRuntime) -> Result<(), Fail> {
     let alloc = rt.alloc();
-    let x = name_of(alloc, b"x")?;
-    let integer = name_of(alloc, b"INTEGER")?;
-    let mut scope = make_scope(alloc)?;
-    scope.enter()?;
-    assert_eq!(rt; seen(alloc, &scope, b"FALSE")?, Some(0));
-    assert!(rt; matches!(scope.look(&integer), Some(Decl::Kind(_))));
-    scope.declare(alloc, &x, Decl::Whole(1))?;
-    let twice = scope.declare(alloc, &x, Decl::Whole(2));
-    assert!(rt; matches!(twice, Err(DeclareErr::Twice)));
-    let kind = Shared::new(alloc, DbType::Card)?;
-    let variable = Decl::Variable(kind, Sort::Param(3));
-    scope.add(alloc, &integer, copy_decl(&variable)?, Origin::Imported)?;
-    scope.enter()?;
-    scope.declare(alloc, &x, Decl::Whole(3))?;
-    assert_eq!(rt; seen(alloc, &scope, b"x")?, Some(3));
-    scope.leave();
-    assert_eq!(rt; seen(alloc, &scope, b"x")?, Some(1));
-    assert!(rt;
-        matches!(
-            scope.look(&integer),
-            Some(Decl::Variable(_, Sort::Param(3)))
-        )
-    );
-    let unit = Shared::new(alloc, name_of(alloc, b"M")?)?;
-    let exports = interface(alloc, &unit, &scope)?;
-    assert_eq!(rt; exports.pairs.len(), 1);
-    assert_eq!(rt; number(exported(&exports, &x)), Some(1));
-    let exports = in_out(alloc)?;
-    assert!(rt; is_exported(alloc, &exports, b"Read")? && is_exported(alloc, &exports, b"Done")?);
-    declare_many(alloc, &mut scope, 100_000)?;
-    scope.enter()?;
-    hide_many(alloc, &mut scope, 100_000)?;
-    assert!(rt; !are_found(alloc, &scope, 1)?);
-    scope.leave();
-    assert!(rt; are_found(alloc, &scope, 100_000)?);
-    scope.leave();
-    scope.leave();
-    assert_eq!(rt; seen(alloc, &scope, b"TRUE")?, Some(1));
-    assert_eq!(rt; seen(alloc, &scope, b"x")?, None);
+    assert!(rt; levels(alloc)?);
+    assert!(rt; standard_names(alloc)?);
+    assert!(rt; own_interface(alloc)?);
+    assert!(rt; in_out_interface(alloc)?);
+    assert!(rt; many(alloc, 100_000)?);
     Ok(())
 }
