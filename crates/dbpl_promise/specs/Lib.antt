@@ -1,0 +1,9 @@
+pub mod Faults
+pub mod Leaving
+pub mod Opening
+pub mod Promises
+pub mod Refusals
+pub mod Running
+pub mod Runs
+pub mod Stages
+pub mod Work
