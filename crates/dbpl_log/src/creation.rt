@@ -1,7 +1,7 @@
 // A new store: the head is written behind a shut gate, which is opened last.
 ghost use Rattle.std.specs.Prelude.{◌≡◌, ◌⊎◌, ℕ, Bool, List, ◌∷◌, [], drop, Err, IsTrue, IsSome, OnOk, OnErr};
 ghost use Rattle.dbpl_world.specs.Images.{IsImage, settled};
-ghost use Rattle.dbpl_world.specs.History.{now};
+ghost use Rattle.dbpl_world.specs.History.{now, settled_store};
 ghost use Rattle.dbpl_world.specs.Moments.{EachMoment};
 ghost use Rattle.dbpl_world.specs.Counts.{Rose, OnlyDiskFaults};
 ghost use Rattle.dbpl_log.specs.Records.{HasHead};
@@ -37,6 +37,9 @@ pub fn create<W: World>(world: &mut W) -> Result<(), CreateErr>
     ensures foreign_where { IsTrue W.tells → IsForeign (now (W.history world.old)).disk → (result ≡ Err errors.Foreign) ⊎ (result ≡ Err errors.Disk) }
     ensures refused { IsTrue W.tells → (result ≡ Err errors.Exists) ⊎ (result ≡ Err errors.Foreign) →
         EachMoment (LeavesLog (IsImage (now (W.history world.old)).disk.log) (now (W.history world.old))) (W.history world.old) (W.history world.new) }
+    // Before it is refused both parts are synced.
+    ensures settled { IsTrue W.tells → (result ≡ Err errors.Exists) ⊎ (result ≡ Err errors.Foreign) →
+        (now (W.history world.new)).disk ≡ settled_store (now (W.history world.old)).disk.log.now (now (W.history world.old)).disk.pages.now }
     ensures kept { IsTrue W.tells → (IsFree (now (W.history world.old)).disk → ⊥) →
         EachMoment (LeavesLog (IsImage (now (W.history world.old)).disk.log) (now (W.history world.old))) (W.history world.old) (W.history world.new) }
 

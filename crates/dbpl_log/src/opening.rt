@@ -26,7 +26,9 @@ pub fn open<W: World>(alloc: Global, world: &mut W) -> Result<Opened, OpenErr>
     ensures only_syncs { IsTrue W.tells → EachMoment (OnlySyncs (now (W.history world.old))) (W.history world.old) (W.history world.new) }
     ensures moments { IsTrue W.tells → EachMoment (LeavesLog (IsImage (now (W.history world.old)).disk.log) (now (W.history world.old))) (W.history world.old) (W.history world.new) }
 
-    // Each refusal comes exactly where it says, but for faults and want of memory.
+    // Each refusal comes exactly where it says, but for faults and want of memory, and once both parts are synced.
+    ensures settled { IsTrue W.tells → (result ≡ Err errors.NotStore) ⊎ (result ≡ Err errors.Damaged) →
+        (now (W.history world.new)).disk ≡ settled_store (now (W.history world.old)).disk.log.now (now (W.history world.old)).disk.pages.now }
     ensures not_store { IsTrue W.tells → result ≡ Err errors.NotStore → HasHead (now (W.history world.old)).disk.log.now → ⊥ }
     ensures not_store_where { IsTrue W.tells → (HasHead (now (W.history world.old)).disk.log.now → ⊥) → (result ≡ Err errors.NotStore) ⊎ (result ≡ Err errors.Disk) }
     ensures damaged { IsTrue W.tells → result ≡ Err errors.Damaged → HasHead (now (W.history world.old)).disk.log.now × (records_of (now (W.history world.old)).disk.log.now ≡ None) }

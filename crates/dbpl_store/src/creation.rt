@@ -7,7 +7,7 @@ ghost use Rattle.dbpl_log.specs.declared.create_err.CreateErr.TheVariants as err
 ghost use Rattle.dbpl_store.specs.Beginning.{LeavesBegun, MayBecomeEmpty, StandsEmpty};
 ghost use Rattle.dbpl_store.specs.Stands.{LeavesOld};
 ghost use Rattle.dbpl_world.specs.Counts.{OnlyDiskFaults, Rose};
-ghost use Rattle.dbpl_world.specs.History.{now};
+ghost use Rattle.dbpl_world.specs.History.{now, settled_store};
 ghost use Rattle.dbpl_world.specs.Images.{IsImage, settled};
 ghost use Rattle.dbpl_world.specs.Moments.{EachMoment};
 
@@ -33,6 +33,9 @@ pub fn create<W: World>(world: &mut W) -> Result<(), CreateErr>
     ensures foreign_where { IsTrue W.tells → IsForeign (now (W.history world.old)).disk → (result ≡ Err errors.Foreign) ⊎ (result ≡ Err errors.Disk) }
     ensures refused { IsTrue W.tells → (result ≡ Err errors.Exists) ⊎ (result ≡ Err errors.Foreign) →
         EachMoment (LeavesOld (now (W.history world.old))) (W.history world.old) (W.history world.new) }
+    // Before it is refused both parts are synced.
+    ensures settled { IsTrue W.tells → (result ≡ Err errors.Exists) ⊎ (result ≡ Err errors.Foreign) →
+        (now (W.history world.new)).disk ≡ settled_store (now (W.history world.old)).disk.log.now (now (W.history world.old)).disk.pages.now }
     ensures kept { IsTrue W.tells → (IsFree (now (W.history world.old)).disk → ⊥) → EachMoment (LeavesOld (now (W.history world.old))) (W.history world.old) (W.history world.new) }
 
     ensures same { W.mounted world.new ≡ W.mounted world.old }
