@@ -10,7 +10,7 @@ use Rattle.dbpl_alone.specs.declared.program.Program.{Program}
 use Rattle.dbpl_base.specs.declared.status.Status.{Status}
 use Rattle.dbpl_base.specs.declared.status.Status.TheVariants as status
 use Rattle.dbpl_core.proofs.Events.{prints-outs}
-use Rattle.dbpl_core.specs.Events.{last, prints}
+use Rattle.dbpl_core.specs.Events.{prints}
 use Rattle.dbpl_core.specs.Outcomes.{IsToldBy, Outcome, TellsOfEnd}
 use Rattle.dbpl_promise.specs.Promises.{Answered, LeavesAlone}
 use Rattle.dbpl_promise.specs.Refusals.{is_refusal}

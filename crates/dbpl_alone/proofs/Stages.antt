@@ -1,11 +1,11 @@
 -- What the stages of a run of one file do.
-use Rattle.std.proofs.Common.{◌≡◌, ◌∙◌, ◌⊎◌, ℕ, List, [], IsTrue, None, ap, inl, inr, refl, subst, sym}
+use Rattle.std.proofs.Common.{◌≡◌, ℕ, List, [], None, inl, inr, refl, subst, sym}
 use Rattle.dbpl_alone.proofs.MeaningLaws.{module_steady}
 use Rattle.dbpl_alone.proofs.ModuleLaw.{module_or_refusal, one_module, one_refusal}
 use Rattle.dbpl_alone.specs.Answers.{IsNotRead}
 use Rattle.dbpl_alone.specs.Command.{IsNoModule, accepted, runs_alone}
 use Rattle.dbpl_alone.specs.Meaning.{module_meaning}
-use Rattle.dbpl_alone.specs.Modules.{IsModule, IsRefused}
+use Rattle.dbpl_alone.specs.Modules.{IsModule}
 use Rattle.dbpl_alone.specs.declared.program.Program.{Program}
 use Rattle.dbpl_base.specs.declared.place.Place.{Place}
 use Rattle.dbpl_base.specs.declared.status.Status.{Status}
@@ -17,7 +17,7 @@ use Rattle.dbpl_promise.proofs.AnswerKinds.{HasKinds, Refusal, kind_of, kinds_gi
 use Rattle.dbpl_promise.proofs.Stages.{running_determined}
 use Rattle.dbpl_promise.proofs.Stopped.{IsStill, stopped, stops_in_front}
 use Rattle.dbpl_promise.specs.Promises.{Answered}
-use Rattle.dbpl_promise.specs.Running.{ended, running}
+use Rattle.dbpl_promise.specs.Running.{running}
 use Rattle.dbpl_promise.specs.Runs.{Run}
 use Rattle.dbpl_promise.specs.Stages.{IsDetermined, Stage, Stops, gives, ◌>>=◌}
 use Rattle.dbpl_promise.specs.Work.{IsTold, Work}

@@ -12,17 +12,17 @@ use Rattle.dbpl_promise.proofs.Leaving.{alone_here, untouched_here}
 use Rattle.dbpl_promise.proofs.Mounted.{SinceMounted, alone_there, moments_mounted, mounted_disk, mounted_input, mounted_said, mounted_state, only_disk, since_mounted, stands_there, untouched_there}
 use Rattle.dbpl_promise.proofs.Stopped.{IsStill, still_moments}
 use Rattle.dbpl_promise.proofs.Together.{moments_all, moments_both}
-use Rattle.dbpl_promise.specs.Leaving.{IsUntouched, made_sure}
+use Rattle.dbpl_promise.specs.Leaving.{IsUntouched}
 use Rattle.dbpl_promise.specs.Opening.{store_before}
 use Rattle.dbpl_promise.specs.Promises.{Answered, LeavesAlone}
-use Rattle.dbpl_promise.specs.Stages.{IsDetermined, IsDue, gives, ◌>>=◌}
-use Rattle.dbpl_promise.specs.Work.{IsTold, Work}
+use Rattle.dbpl_promise.specs.Stages.{IsDetermined, IsDue, gives}
+use Rattle.dbpl_promise.specs.Work.{Work}
 use Rattle.dbpl_store.specs.Beginning.{LeavesBegun, MayBecomeEmpty, StandsEmpty}
 use Rattle.dbpl_store.specs.Stands.{LeavesOld, stands}
 use Rattle.dbpl_stored_modes.proofs.RunLaw.{rose_later}
 use Rattle.dbpl_stored_modes.specs.CreateCommand.{EndsCreate, IsTaken, MayCreate, creates, made}
 use Rattle.dbpl_stored_modes.specs.Creating.{IsBeingMade, answer_of}
-use Rattle.dbpl_stored_modes.specs.Images.{EachImage, StandsThere}
+use Rattle.dbpl_stored_modes.specs.Images.{EachImage}
 use Rattle.dbpl_world.proofs.Moments.{moments_last, moments_weaken}
 use Rattle.dbpl_world.specs.Counts.{Rose}
 use Rattle.dbpl_world.specs.History.{History, Mounted, State, Store, more, now, settled_store, store_of}

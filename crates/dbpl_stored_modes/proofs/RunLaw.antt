@@ -8,7 +8,7 @@ use Rattle.dbpl_core.specs.Outcomes.{Ended, IsToldBy, Outcome, Standing, TellsOf
 use Rattle.dbpl_core.specs.declared.trap.Trap.{Trap}
 use Rattle.dbpl_log.specs.Changes.{IsSynced}
 use Rattle.dbpl_log.specs.Records.{HasHead, open_head}
-use Rattle.dbpl_promise.proofs.AnswerKinds.{Refusal, kind_of, refusal_kind}
+use Rattle.dbpl_promise.proofs.AnswerKinds.{refusal_kind}
 use Rattle.dbpl_promise.proofs.Leaving.{alone_here, tied_here, untouched_here}
 use Rattle.dbpl_promise.proofs.Mounted.{SinceMounted, alone_there, moments_mounted, mounted_disk, mounted_input, mounted_said, mounted_state, only_disk, since_mounted, stands_there, untouched_there}
 use Rattle.dbpl_promise.proofs.Together.{moments_all, moments_both}
@@ -21,11 +21,10 @@ use Rattle.dbpl_promise.specs.Runs.{HasMade, IsTied, IsWhole, Leaves, Run, Stood
 use Rattle.dbpl_promise.specs.Stages.{IsDue, ◌>>=◌}
 use Rattle.dbpl_promise.specs.Work.{IsTold, Work}
 use Rattle.dbpl_store.specs.Stands.{LeavesOld, stands}
-use Rattle.dbpl_stored_modes.proofs.Stages.{IsFound, found_over, over_kinds, over_mounts, over_store, passes_over, run_of}
+use Rattle.dbpl_stored_modes.proofs.Stages.{found_over, over_kinds, over_mounts, over_store, passes_over, run_of}
 use Rattle.dbpl_stored_modes.specs.Telling.{TellsOfRun}
 use Rattle.dbpl_stored_program.proofs.Databases.{bound-is_there}
 use Rattle.dbpl_stored_program.proofs.Statements.{whole-comes_to}
-use Rattle.dbpl_stored_program.specs.Meaning.{meaning}
 use Rattle.dbpl_stored_program.specs.Whole.{events_of, turns_of, whole_run}
 use Rattle.dbpl_stored_program.specs.declared.stored_program.StoredProgram.{StoredProgram}
 use Rattle.dbpl_stored_run.specs.Answers as ran

@@ -4,8 +4,8 @@ use Rattle.std.specs.Prelude.{bytes_eq, if◌then◌else◌}
 use Rattle.dbpl_alone.specs.Command.{runs_alone}
 use Rattle.dbpl_base.specs.declared.status.Status.{Status}
 use Rattle.dbpl_base.specs.declared.status.Status.TheVariants as status
-use Rattle.dbpl_core.specs.Events.{Event, last}
-use Rattle.dbpl_core.specs.Outcomes.{IsSteady as IsSteadyMeaning, IsToldBy, Outcome, TellsOfEnd}
+use Rattle.dbpl_core.specs.Events.{last}
+use Rattle.dbpl_core.specs.Outcomes.{IsSteady as IsSteadyMeaning, Outcome, TellsOfEnd}
 use Rattle.dbpl_promise.proofs.AnswerKinds.{HasKinds, end_kind}
 use Rattle.dbpl_promise.proofs.Headline.{now_noted}
 use Rattle.dbpl_promise.proofs.Stages.{one_end}
@@ -15,18 +15,16 @@ use Rattle.dbpl_promise.specs.Runs.{IsWhole, Leaves, Run as Running, StoodFor}
 use Rattle.dbpl_promise.specs.Stages.{IsDue, ◌>>=◌}
 use Rattle.dbpl_promise.specs.Work.{IsTold, Work}
 use Rattle.dbpl_store.specs.Stands.{stands}
-use Rattle.dbpl_stored_modes.proofs.Stages.{IsFound, found_over, meaning_steady, over_all_kinds, run_of}
+use Rattle.dbpl_stored_modes.proofs.Stages.{found_over, meaning_steady, over_all_kinds, run_of}
 use Rattle.dbpl_stored_modes.specs.CreateCommand.{creates}
 use Rattle.dbpl_stored_modes.specs.Images.{EachImage}
 use Rattle.dbpl_stored_modes.specs.RunCommand.{runs_over}
-use Rattle.dbpl_stored_program.specs.declared.stored_program.StoredProgram.{StoredProgram}
-use Rattle.dbpl_tool.specs.Commands.{IsReported, Keeps, Runs, promise_of}
+use Rattle.dbpl_tool.specs.Commands.{Keeps, Runs, promise_of}
 use Rattle.dbpl_tool.specs.Next.{LeavesStore}
 use Rattle.dbpl_value.specs.declared.bound.Bound.{Bound}
-use Rattle.dbpl_words.specs.Asked.{Asked, Asks, Create, Run, RunAlone}
+use Rattle.dbpl_words.specs.Asked.{Asked, Create, Run, RunAlone}
 use Rattle.dbpl_world.specs.Files.{Files}
 use Rattle.dbpl_world.specs.History.{AllReadAnImage, History, Noted, ReadsAnImage, State, Store, more, now, store_among, store_of}
-use Rattle.dbpl_world.specs.Images.{IsImage}
 use Rattle.dbpl_world.specs.declared.counts.Counts.{Counts}
 
 -- ---- what a read gives of any store is an image of it

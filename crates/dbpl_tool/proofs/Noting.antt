@@ -10,9 +10,9 @@ use Rattle.dbpl_promise.specs.Runs.{IsTiedThroughout, IsWholeFromThen, Run as Ru
 use Rattle.dbpl_promise.specs.Work.{IsTold, Work}
 use Rattle.dbpl_stored_modes.specs.RunCommand.{runs_over}
 use Rattle.dbpl_stored_run.specs.Leaving.{OnlyRunFaults}
-use Rattle.dbpl_tool.specs.Commands.{IsReported, Runs, promise_of}
-use Rattle.dbpl_tool.specs.Notes.{NotedSince, NotesReport, OnlyCommandFaults, Reports}
-use Rattle.dbpl_words.specs.Asked.{Asked, Asks, Create, Run, RunAlone}
+use Rattle.dbpl_tool.specs.Commands.{IsReported, promise_of}
+use Rattle.dbpl_tool.specs.Notes.{NotesReport, OnlyCommandFaults, Reports}
+use Rattle.dbpl_words.specs.Asked.{Asked, Create, Run, RunAlone}
 use Rattle.dbpl_world.proofs.Replays.{now-more, replay-noted}
 use Rattle.dbpl_world.specs.Counts.{OnlyNoteFaults, Rose}
 use Rattle.dbpl_world.specs.History.{History, Noted, State, more, now}

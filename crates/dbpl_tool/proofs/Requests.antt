@@ -1,5 +1,5 @@
 -- Words that ask for one thing ask for no other, and what is asked for isn't answered as bad words.
-use Rattle.std.proofs.Common.{◌≡◌, ℕ, List, subst}
+use Rattle.std.proofs.Common.{◌≡◌, subst}
 use Rattle.dbpl_alone.proofs.Stages.{alone_kinds}
 use Rattle.dbpl_alone.specs.Command.{runs_alone}
 use Rattle.dbpl_base.specs.declared.status.Status.{Status}

@@ -1,5 +1,5 @@
 -- Each branch keeps the promise of what was asked for.
-use Rattle.std.proofs.Common.{◌≡◌, ◌∙◌, ap, sym}
+use Rattle.std.proofs.Common.{◌∙◌, ap, sym}
 use Rattle.dbpl_promise.specs.Promises.{Answered}
 use Rattle.dbpl_promise.specs.Work.{Work, work_of}
 use Rattle.dbpl_tool.proofs.Requests.{kept_as, no_bad_words}
