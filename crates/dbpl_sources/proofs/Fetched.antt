@@ -1,5 +1,7 @@
 -- What the stages of fetching do: each file has one text, or one answer says why there is none.
-use Rattle.std.proofs.Common.{◌≡◌, ◌<◌, ◌∙◌, ◌++◌, ℕ, List, [], ◌∷◌, None, Option, Some, ap, arith, inl, inr, length, refl, subst, sym}
+use Rattle.std.proofs.Common.{◌≡◌, ◌<◌, ◌≤◌, ◌∙◌, ◌+◌, ◌++◌, ℕ, List, [], ◌∷◌, None, Option, Some, add-one, ap, arith, drop, get_or, inl, inr, length, map, refl, subst, sym, take}
+use Rattle.std.proofs.Math.Seq.{drop-cons}
+use Rattle.std.proofs.lemmas.List.{map-append, take-append-drop, take_all, take_more}
 use Rattle.std.specs.Prelude.{IsSome}
 use Rattle.dbpl_base.specs.declared.limits.TheConstants.{SOURCE_BYTES}
 use Rattle.dbpl_base.specs.declared.status.Status.{Status}
@@ -124,3 +126,29 @@ pub stops_first : (file : List ℕ) (files : List (List ℕ)) (work : Work) (ans
 stops_first file files work answer (inl refuses) = inl (inl refuses)
 stops_first file files work answer (inr (inl fault)) = inr (inl (inl fault))
 stops_first file files work answer (inr (inr memory)) = inr (inr memory)
+
+-- the loop over the files, at one of them
+module _ {X : Type 0} (name : X → List ℕ) (xs : List X) (i : ℕ) (none : X) (inside : i < length xs)
+    (work : Work) (texts : List (List ℕ)) (front : (all_fetched (map name (take i xs))).passes work texts) where
+  split : xs ≡ take i xs ++ (get_or xs i none ∷ drop (i + 1) xs)
+  split = sym (take-append-drop i xs) ∙ ap (λ ys. take i xs ++ ys) (rw (add-one, drop-cons xs i none inside) refl)
+
+  pub one_more : (text : List ℕ) → (fetched (name (get_or xs i none))).passes work text →
+      (all_fetched (map name (take (i + 1) xs))).passes work (texts ++ text ∷ [])
+  one_more text has =
+      subst (λ (files : List X). (all_fetched (map name files)).passes work (texts ++ text ∷ [])) (sym (take_more xs i none inside))
+      (subst (λ (files : List (List ℕ)). (all_fetched files).passes work (texts ++ text ∷ [])) (sym (map-append name (take i xs) (get_or xs i none ∷ [])))
+      (passes_on (map name (take i xs)) (name (get_or xs i none) ∷ []) texts (text ∷ []) work front (text, has, ([], refl, refl))))
+
+  pub stops_here : (answer : Status) → Stops (fetched (name (get_or xs i none))) work answer → Stops (all_fetched (map name xs)) work answer
+  stops_here answer stops =
+      subst (λ (files : List X). Stops (all_fetched (map name files)) work answer) (sym split)
+      (subst (λ (files : List (List ℕ)). Stops (all_fetched files) work answer) (sym (map-append name (take i xs) (get_or xs i none ∷ drop (i + 1) xs)))
+      (stops_on (map name (take i xs)) (name (get_or xs i none) ∷ map name (drop (i + 1) xs)) texts work answer front
+      (stops_first (name (get_or xs i none)) (map name (drop (i + 1) xs)) work answer stops)))
+
+-- behind the last one
+pub all_passed : {X : Type 0} (name : X → List ℕ) (xs : List X) (i : ℕ) (work : Work) (texts : List (List ℕ)) → length xs ≤ i →
+    (all_fetched (map name (take i xs))).passes work texts → (all_fetched (map name xs)).passes work texts
+all_passed name xs i work texts past front =
+    subst (λ files. (all_fetched (map name files)).passes work texts) (take_all i xs past) front
