@@ -1,6 +1,6 @@
 -- What a run comes to within some number of turns, and which events it has made by some moment. A meaning is a function of
 -- the number of turns, since a run needn't end.
-use Rattle.std.specs.Prelude.{◌≡◌, ℕ, List, ◌++◌}
+use Rattle.std.specs.Prelude.{◌≡◌, ◌≢◌, ℕ, ◌+◌, List, ◌++◌}
 use Rattle.dbpl_base.specs.declared.status.Status.{Status}
 use Rattle.dbpl_base.specs.declared.status.Status.TheVariants as status
 use Rattle.dbpl_core.specs.Events.{Event}
@@ -25,6 +25,11 @@ IsPrefixOf made events = (rest : List Event) × (events ≡ made ++ rest)
 -- THE events that a run may have made by some moment: a prefix of those that its meaning gives within some number of turns
 abbrev pub MayHaveMade : (ℕ → Outcome) → List Event → Type 0
 MayHaveMade means made = (turns : ℕ) × IsPrefixOf made (means turns).events
+
+-- THE law of meanings: more turns only add events, and a run that has ended or trapped stays as it is.
+pub record IsSteady (means : ℕ → Outcome) : Type 0 where
+  pub extends : (turns others : ℕ) → IsPrefixOf (means turns).events (means (turns + others)).events
+  pub stays : (turns others : ℕ) → (means turns).stands ≢ Going → means (turns + others) ≡ means turns
 
 -- THE answer that tells how a run ended. One that goes on has none.
 abbrev pub IsToldBy : Standing → Status → Type 0
