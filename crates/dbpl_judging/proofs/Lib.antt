@@ -1,0 +1,5 @@
+pub mod Least
+pub mod Lists
+pub mod Sequence
+pub mod Speaking
+pub mod Staging

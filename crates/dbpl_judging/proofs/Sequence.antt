@@ -1,0 +1,108 @@
+-- THE laws of sequencing, by which a function that judges parts and goes on meets its contract. Each takes the contracts of the
+-- calls, one after the other, and gives the contract of what they do together. What stands later is judged in the setting of the
+-- checker that its function got: a `Setting → Judged B` is that judgement in each setting.
+use Rattle.std.proofs.Common.{◌≡◌, ℕ, ◌+◌, ◌<◌, List, [], ◌∷◌, ◌++◌, length, take, get_or, Option, Some, None, option_map, Result, Ok, Err, refl, sym, ap, ◌∙◌, subst, append_assoc, append-nil}
+use Rattle.std.specs.List.{fold}
+use Rattle.std.proofs.lemmas.List.{take_more}
+use Rattle.std.proofs.lemmas.List.Sums.{fold_more}
+use Rattle.dbpl_base.specs.declared.memory.Memory.{Memory}
+use Rattle.dbpl_base.specs.declared.refusal.Refusal.{Refusal}
+use Rattle.dbpl_judging.proofs.Least.{noting-append}
+use Rattle.dbpl_judging.proofs.Lists.{one_core, put_before}
+use Rattle.dbpl_judging.specs.Checking.{Checking, noting}
+use Rattle.dbpl_judging.specs.Judging.{Judges}
+use Rattle.dbpl_judging.specs.Judgements.{Judged, added, both, each, folded, of, of_both, paired, ◌>>=◌}
+use Rattle.dbpl_judging.specs.declared.setting.Setting.{Setting}
+
+-- a phrase, and what is asked of its core
+pub then :
+    {A B : Type 0} (judged : Judged A) (next : A → Judged B) (core : Option A) (result : Result (Option B) Memory) (old middle new : Checking) →
+    Judges judged (Ok core) old middle → Judges (of next core) result middle new → Judges (judged >>= next) result old new
+then judged next core (Err error) old middle new first second = tt
+then judged next core (Ok answer) old middle new first second =
+    let Follows : Option _ → Checking → Type 0 = λ part checker. (answer ≡ (of next part).core) × (new ≡ noting (of next part).breaches checker) in
+    let moved : Follows core (noting judged.breaches old) = subst (λ checker. Follows core checker) first.1 second in
+    let there : Follows judged.core (noting judged.breaches old) =
+    subst (λ part. Follows part (noting judged.breaches old)) first.0 moved in
+    (there.0, there.1 ∙ sym (noting-append judged.breaches (of next judged.core).breaches old))
+
+-- one phrase and another beside it
+pub together :
+    {A B : Type 0} (one : Judged A) (other : Setting → Judged B) (first : Option A) (second : Option B) (old middle new : Checking) →
+    Judges one (Ok first) old middle → Judges (other middle.setting) (Ok second) middle new →
+    Judges (both one (other old.setting)) (Ok (paired first second)) old new
+together one other first second old middle new is also =
+    let Follows : Checking → Type 0 = λ checker. (second ≡ (other checker.setting).core) × (new ≡ noting (other checker.setting).breaches checker) in
+    let there : Follows (noting one.breaches old) = subst Follows is.1 also in (
+      ap (λ part. paired part second) is.0 ∙ ap (λ part. paired one.core part) there.0,
+      there.1 ∙ sym (noting-append one.breaches (other old.setting).breaches old),
+    )
+
+-- two phrases side by side, and what is asked of both cores
+pub then_both :
+    {A B C : Type 0} (one : Judged A) (other : Setting → Judged B) (next : A → B → Judged C) (first : Option A) (second : Option B)
+    (result : Result (Option C) Memory) (old middle last new : Checking) →
+    Judges one (Ok first) old middle → Judges (other middle.setting) (Ok second) middle last → Judges (of_both next first second) result last new →
+    Judges (both one (other old.setting) >>= λ parts. next parts.0 parts.1) result old new
+then_both one other next first second result old middle last new is also asked =
+    then (both one (other old.setting)) (λ parts. next parts.0 parts.1) (paired first second) result old last new
+    (together one other first second old middle last is also) asked
+
+-- one more turn of a loop that judges a part and asks what is asked of all so far and this part
+pub one_more :
+    {P A B : Type 0} (start : Judged A) (judge : Setting → P → Judged B) (next : P → A → B → Judged A) (phrases : List P) (at : ℕ) (phrase : P)
+    (so_far : Option A) (part : Option B) (result : Option A) (old middle last new : Checking) →
+    at < length phrases → phrase ≡ get_or phrases at phrase →
+    Judges (folded (judge old.setting) next start (take at phrases)) (Ok so_far) old middle → Judges (judge middle.setting phrase) (Ok part) middle last →
+    Judges (of_both (next phrase) so_far part) (Ok result) last new →
+    Judges (folded (judge old.setting) next start (take (at + 1) phrases)) (Ok result) old new
+one_more {P = P} {A = A} start judge next phrases at phrase so_far part result old middle last new within is before also asked =
+    let step : Judged A → P → Judged A = λ left one. both left (judge old.setting one) >>= λ parts. next one parts.0 parts.1 in
+    let front : Judged A = folded (judge old.setting) next start (take at phrases) in
+    let turn : Judges (step front phrase) (Ok result) old new =
+    then_both front (λ setting. judge setting phrase) (next phrase) so_far part (Ok result) old middle last new before also asked in
+    let whole : folded (judge old.setting) next start (take (at + 1) phrases) ≡ step front phrase =
+    fold_more step start phrases at phrase within ∙ ap (step front) (sym is) in
+    subst (λ judged. Judges judged (Ok result) old new) (sym whole) turn
+
+-- ---- lists
+
+each_core : {A B : Type 0} (judge : A → Judged B) (phrases : List A) (phrase : A) →
+    (each judge (phrases ++ phrase ∷ [])).core ≡ added (each judge phrases).core (judge phrase).core
+each_core judge [] phrase = one_core (judge phrase).core
+each_core judge (first ∷ phrases) phrase =
+    ap (λ list. option_map (λ parts. parts.0 ∷ parts.1) (paired (judge first).core list)) (each_core judge phrases phrase)
+    ∙ put_before (judge first).core (each judge phrases).core (judge phrase).core
+
+each_breaches : {A B : Type 0} (judge : A → Judged B) (phrases : List A) (phrase : A) →
+    (each judge (phrases ++ phrase ∷ [])).breaches ≡ (each judge phrases).breaches ++ (judge phrase).breaches
+each_breaches judge [] phrase = append-nil (judge phrase).breaches
+each_breaches judge (first ∷ phrases) phrase =
+    ap (λ breaches. (judge first).breaches ++ breaches) (each_breaches judge phrases phrase)
+    ∙ sym (append_assoc (judge first).breaches (each judge phrases).breaches (judge phrase).breaches)
+
+-- a list of phrases, and one more
+pub each_push :
+    {P B : Type 0} (judge : Setting → P → Judged B) (phrases : List P) (phrase : P) (list : Option (List B)) (part : Option B)
+    (old middle new : Checking) →
+    Judges (each (judge old.setting) phrases) (Ok list) old middle → Judges (judge middle.setting phrase) (Ok part) middle new →
+    Judges (each (judge old.setting) (phrases ++ phrase ∷ [])) (Ok (added list part)) old new
+each_push judge phrases phrase list part old middle new before also =
+    let there : Judges (both (each (judge old.setting) phrases) (judge old.setting phrase)) (Ok (paired list part)) old new =
+    together (each (judge old.setting) phrases) (λ setting. judge setting phrase) list part old middle new before also in (
+      ap (option_map (λ parts. parts.0 ++ parts.1 ∷ [])) there.0 ∙ sym (each_core (judge old.setting) phrases phrase),
+      there.1 ∙ ap (λ breaches. noting breaches old) (sym (each_breaches (judge old.setting) phrases phrase)),
+    )
+
+-- one more turn of a loop that judges each phrase of a list
+pub one_more_of_list :
+    {P B : Type 0} (judge : Setting → P → Judged B) (phrases : List P) (at : ℕ) (phrase : P) (list : Option (List B)) (part : Option B)
+    (old middle new : Checking) →
+    at < length phrases → phrase ≡ get_or phrases at phrase → Judges (each (judge old.setting) (take at phrases)) (Ok list) old middle →
+    Judges (judge middle.setting phrase) (Ok part) middle new →
+    Judges (each (judge old.setting) (take (at + 1) phrases)) (Ok (added list part)) old new
+one_more_of_list judge phrases at phrase list part old middle new within is before also =
+    let whole : take (at + 1) phrases ≡ take at phrases ++ phrase ∷ [] =
+    take_more phrases at phrase within ∙ ap (λ one. take at phrases ++ one ∷ []) (sym is) in
+    subst (λ front. Judges (each (judge old.setting) front) (Ok (added list part)) old new) (sym whole)
+    (each_push judge (take at phrases) phrase list part old middle new before also)

@@ -1,0 +1,197 @@
+-- THE laws of sequencing for what declares: the same as those of phrases, with the scope handed on.
+use Rattle.std.proofs.Common.{◌≡◌, ℕ, ◌+◌, ◌-◌, ◌<◌, List, [], ◌∷◌, ◌++◌, length, take, get_or, Option, Some, option_map, Result, Ok, Err, refl, sym, ap, ◌∙◌, subst, append_assoc, append-nil, length-append, arith}
+use Rattle.std.specs.List.{slice_get}
+use Rattle.std.specs.Option.{option_map_or}
+use Rattle.std.proofs.lemmas.List.{take_more}
+use Rattle.dbpl_base.specs.declared.memory.Memory.{Memory}
+use Rattle.dbpl_base.specs.declared.refusal.Refusal.{Refusal}
+use Rattle.dbpl_judging.proofs.Least.{noting-append}
+use Rattle.dbpl_judging.proofs.Lists.{one_core, put_before}
+use Rattle.dbpl_judging.specs.Checking.{Checking, noting}
+use Rattle.dbpl_judging.specs.Judging.{Judges}
+use Rattle.dbpl_judging.specs.Judgements.{Judged, added, paired}
+use Rattle.dbpl_judging.specs.Stages.{Adds, Staged, Stages, after, both_staged, each_staged, in_level, in_scope, leaving, under}
+use Rattle.dbpl_judging.specs.declared.setting.Setting.{Setting}
+use Rattle.dbpl_symbols.specs.Scopes.{Declarations, entered, last_of, left, with_pair, with_pairs}
+use Rattle.dbpl_symbols.specs.declared.pair.Pair.{Pair}
+
+-- what is noted after one stage and another, in the scope behind the second
+pub after-after :
+    (breaches others : List Refusal) (scope behind : Declarations) (checker : Checking) →
+    after others behind (after breaches scope checker) ≡ after (breaches ++ others) behind checker
+after-after breaches others scope behind checker = sym (noting-append breaches others (in_scope behind checker))
+
+-- what is judged and then leaves another scope, or the same one, is a stage
+pub then_leaves :
+    {A : Type 0} (judged : Judged A) (scope : Declarations) (core : Option A) (old middle new : Checking) →
+    Judges judged (Ok core) old middle → new ≡ in_scope scope middle → Stages (leaving scope judged) (Ok core) old new
+then_leaves judged scope core old middle new judges leaves =
+    (judges.0, leaves ∙ ap (λ (checker : Checking). in_scope scope checker) judges.1)
+
+-- a judgement leaves the scope as it is
+pub as_stage :
+    {A : Type 0} (judged : Judged A) (result : Result (Option A) Memory) (old new : Checking) →
+    Judges judged result old new → Stages (leaving old.setting.scope judged) result old new
+as_stage judged (Err error) old new judges = tt
+as_stage judged (Ok core) old new judges = judges
+
+-- one stage and the next
+pub together_staged :
+    {A B : Type 0} (one : Staged A) (next : Setting → Staged B) (first : Option A) (second : Option B) (old middle new : Checking) →
+    Stages one (Ok first) old middle → Stages (next middle.setting) (Ok second) middle new →
+    Stages (both_staged one next old.setting) (Ok (paired first second)) old new
+together_staged one next first second old middle new is also =
+    let Follows : Checking → Type 0 = λ checker.
+    (second ≡ (next checker.setting).core) × (new ≡ after (next checker.setting).breaches (next checker.setting).scope checker) in
+    let there : Follows (after one.breaches one.scope old) = subst Follows is.1 also in
+    let behind : Staged _ = next (under one.scope old.setting) in (
+      ap (λ part. paired part second) is.0 ∙ ap (λ part. paired one.core part) there.0,
+      there.1 ∙ after-after one.breaches behind.breaches one.scope behind.scope old,
+    )
+
+-- ---- a level that is left
+
+take-front : {A : Type 0} (front : List A) (rest : List A) → take (length front) (front ++ rest) ≡ front
+take-front [] rest = refl
+take-front (x ∷ front) rest = ap (λ xs. x ∷ xs) (take-front front rest)
+
+-- the last of a list to which one was added
+slice_get-push : {A : Type 0} (xs : List A) (x : A) → slice_get (xs ++ x ∷ []) (length xs) ≡ Some x
+slice_get-push [] x = refl
+slice_get-push (y ∷ xs) x = slice_get-push xs x
+
+shorter : {A : Type 0} (xs : List A) (x : A) → length (xs ++ x ∷ []) - 1 ≡ length xs
+shorter xs x = rw (length-append xs (x ∷ [])) (omega arith)
+
+last-push : {A : Type 0} (xs : List A) (x : A) → last_of (xs ++ x ∷ []) ≡ Some x
+last-push xs x = ap (λ (n : ℕ). slice_get (xs ++ x ∷ []) n) (shorter xs x) ∙ slice_get-push xs x
+
+-- A level with any number of declarations is left whole.
+pub left_again : (more : List Pair) (scope : Declarations) → left (with_pairs more (entered scope)) ≡ scope
+left_again more scope =
+    let inner : Declarations = with_pairs more (entered scope) in
+    ap
+    (λ (start : Option ℕ). option_map_or
+    (λ start. let outer : Declarations = record { pairs = take start inner.pairs; starts = take (length inner.starts - 1) inner.starts } in outer)
+    start inner)
+    (last-push scope.starts (length scope.pairs))
+    ∙ ap (λ (pairs : List Pair). let outer : Declarations = record { pairs = pairs; starts = take (length inner.starts - 1) inner.starts } in outer)
+    (take-front scope.pairs more)
+    ∙ ap (λ (starts : List ℕ). let outer : Declarations = record { pairs = scope.pairs; starts = starts } in outer)
+    (ap (λ (n : ℕ). take n inner.starts) (shorter scope.starts (length scope.pairs)) ∙ take-front scope.starts (length scope.pairs ∷ []))
+
+-- A phrase that is judged in a level of its own, with what it declares there, is judged where the level is left.
+pub level_left :
+    {A : Type 0} (inner : Setting → Staged A) (core : Option A) (old entering leaving new : Checking) →
+    entering ≡ in_scope (entered old.setting.scope) old → Stages (inner entering.setting) (Ok core) entering leaving →
+    new ≡ in_scope (left leaving.setting.scope) leaving →
+    Adds (entered old.setting.scope) (inner (under (entered old.setting.scope) old.setting)).scope →
+    Judges (in_level inner old.setting) (Ok core) old new
+level_left inner core old entering leaving new enters stages leaves adds =
+    let Left : Checking → Type 0 = λ checker.
+    (core ≡ (inner checker.setting).core) × (leaving ≡ after (inner checker.setting).breaches (inner checker.setting).scope checker) in
+    let begun : Checking = in_scope (entered old.setting.scope) old in
+    let there : Left begun = subst Left enters stages in
+    let staged : Staged _ = inner begun.setting in
+    let outer : left staged.scope ≡ old.setting.scope = ap left adds.1 ∙ left_again adds.0 old.setting.scope in (
+      there.0,
+      leaves ∙ ap (λ (checker : Checking). in_scope (left checker.setting.scope) checker) there.1
+          ∙ ap (λ (scope : Declarations). in_scope scope (noting staged.breaches old)) outer,
+    )
+
+-- What was judged in another setting is judged where that of before is back.
+pub elsewhere :
+    {A : Type 0} (judged : Judged A) (core : Option A) (setting : Setting) (old middle last new : Checking) →
+    middle ≡ record old { setting = setting } → Judges judged (Ok core) middle last → new ≡ record last { setting = old.setting } →
+    Judges judged (Ok core) old new
+elsewhere judged core setting old middle last new changed is back =
+    let Back : Checking → Type 0 = λ checker. new ≡ (let before : Checking = record checker { setting = old.setting } in before) in (
+      is.0,
+      back
+          ∙ ap (λ (checker : Checking). let before : Checking = record checker { setting = old.setting } in before) is.1
+          ∙ ap (λ (checker : Checking). let before : Checking = record (noting judged.breaches checker) { setting = old.setting } in before) changed,
+    )
+
+-- ---- what a stage adds
+
+pub adds_nothing : (scope : Declarations) → Adds scope scope
+adds_nothing scope = ([], ap (λ (pairs : List Pair). let same : Declarations = record scope { pairs = pairs } in same) (sym (append-nil scope.pairs)))
+
+pub adds_one : (pair : Pair) (scope : Declarations) → Adds scope (with_pair pair scope)
+adds_one pair scope = (pair ∷ [], refl)
+
+pub adds_both : (old middle new : Declarations) → Adds old middle → Adds middle new → Adds old new
+adds_both old middle new (one, first) (other, second) = (
+  one ++ other,
+  second ∙ ap (λ (scope : Declarations). with_pairs other scope) first
+      ∙ ap (λ (pairs : List Pair). let more : Declarations = record old { pairs = pairs } in more) (append_assoc old.pairs one other),
+)
+
+pub each_adds :
+    {A B : Type 0} (stage : A → Setting → Staged B) (phrases : List A) (setting : Setting) →
+    ((phrase : A) (before : Setting) → Adds before.scope (stage phrase before).scope) → Adds setting.scope (each_staged stage phrases setting).scope
+each_adds stage [] setting adds = adds_nothing setting.scope
+each_adds stage (phrase ∷ phrases) setting adds =
+    let behind : Setting = under (stage phrase setting).scope setting in
+    adds_both setting.scope behind.scope (each_staged stage phrases behind).scope (adds phrase setting) (each_adds stage phrases behind adds)
+
+-- ---- lists of stages
+
+-- the setting behind these stages
+abbrev behind : {A B : Type 0} → (A → Setting → Staged B) → List A → Setting → Setting
+behind stage phrases setting = under (each_staged stage phrases setting).scope setting
+
+staged_core :
+    {A B : Type 0} (stage : A → Setting → Staged B) (phrases : List A) (phrase : A) (setting : Setting) →
+    (each_staged stage (phrases ++ phrase ∷ []) setting).core
+    ≡ added (each_staged stage phrases setting).core (stage phrase (behind stage phrases setting)).core
+staged_core stage [] phrase setting = one_core (stage phrase setting).core
+staged_core stage (first ∷ phrases) phrase setting =
+    let next : Setting = under (stage first setting).scope setting in
+    ap (λ list. option_map (λ parts. parts.0 ∷ parts.1) (paired (stage first setting).core list)) (staged_core stage phrases phrase next)
+    ∙ put_before (stage first setting).core (each_staged stage phrases next).core (stage phrase (behind stage phrases next)).core
+
+staged_breaches :
+    {A B : Type 0} (stage : A → Setting → Staged B) (phrases : List A) (phrase : A) (setting : Setting) →
+    (each_staged stage (phrases ++ phrase ∷ []) setting).breaches
+    ≡ (each_staged stage phrases setting).breaches ++ (stage phrase (behind stage phrases setting)).breaches
+staged_breaches stage [] phrase setting = append-nil (stage phrase setting).breaches
+staged_breaches stage (first ∷ phrases) phrase setting =
+    let next : Setting = under (stage first setting).scope setting in
+    ap (λ breaches. (stage first setting).breaches ++ breaches) (staged_breaches stage phrases phrase next)
+    ∙ sym (append_assoc (stage first setting).breaches (each_staged stage phrases next).breaches (stage phrase (behind stage phrases next)).breaches)
+
+staged_scope :
+    {A B : Type 0} (stage : A → Setting → Staged B) (phrases : List A) (phrase : A) (setting : Setting) →
+    (each_staged stage (phrases ++ phrase ∷ []) setting).scope ≡ (stage phrase (behind stage phrases setting)).scope
+staged_scope stage [] phrase setting = refl
+staged_scope stage (first ∷ phrases) phrase setting = staged_scope stage phrases phrase (under (stage first setting).scope setting)
+
+-- several stages, and one more
+pub staged_push :
+    {P B : Type 0} (stage : P → Setting → Staged B) (phrases : List P) (phrase : P) (list : Option (List B)) (part : Option B)
+    (old middle new : Checking) →
+    Stages (each_staged stage phrases old.setting) (Ok list) old middle → Stages (stage phrase middle.setting) (Ok part) middle new →
+    Stages (each_staged stage (phrases ++ phrase ∷ []) old.setting) (Ok (added list part)) old new
+staged_push stage phrases phrase list part old middle new before also =
+    let front : Staged _ = each_staged stage phrases old.setting in
+    let there : Stages (both_staged front (stage phrase) old.setting) (Ok (paired list part)) old new =
+    together_staged front (stage phrase) list part old middle new before also in (
+      ap (option_map (λ parts. parts.0 ++ parts.1 ∷ [])) there.0 ∙ sym (staged_core stage phrases phrase old.setting),
+      there.1
+          ∙ ap (λ breaches. after breaches (stage phrase (behind stage phrases old.setting)).scope old) (sym (staged_breaches stage phrases phrase old.setting))
+          ∙ ap (λ scope. after (each_staged stage (phrases ++ phrase ∷ []) old.setting).breaches scope old) (sym (staged_scope stage phrases phrase old.setting)),
+    )
+
+-- one more turn of a loop over stages
+pub one_more_stage :
+    {P B : Type 0} (stage : P → Setting → Staged B) (phrases : List P) (at : ℕ) (phrase : P) (list : Option (List B)) (part : Option B)
+    (old middle new : Checking) →
+    at < length phrases → phrase ≡ get_or phrases at phrase → Stages (each_staged stage (take at phrases) old.setting) (Ok list) old middle →
+    Stages (stage phrase middle.setting) (Ok part) middle new →
+    Stages (each_staged stage (take (at + 1) phrases) old.setting) (Ok (added list part)) old new
+one_more_stage stage phrases at phrase list part old middle new within is before also =
+    let whole : take (at + 1) phrases ≡ take at phrases ++ phrase ∷ [] =
+    take_more phrases at phrase within ∙ ap (λ one. take at phrases ++ one ∷ []) (sym is) in
+    subst (λ front. Stages (each_staged stage front old.setting) (Ok (added list part)) old new) (sym whole)
+    (staged_push stage (take at phrases) phrase list part old middle new before also)
