@@ -145,6 +145,15 @@ pub some_noted : (found : Refusal) (breaches : List Refusal) → IsSome (all_not
 some_noted found [] = refl
 some_noted found (breach ∷ breaches) = some_noted (lesser found breach) breaches
 
+none_noted : (found : Refusal) (breaches : List Refusal) → all_noted (Some found) breaches ≡ None → ⊥
+none_noted found [] none = cc
+none_noted found (breach ∷ breaches) none = none_noted (lesser found breach) breaches none
+
 pub least_is_there : (breaches : List Refusal) → breaches ≢ [] → IsSome (least breaches)
 least_is_there [] some = absurd (some refl)
 least_is_there (found ∷ breaches) some = some_noted found breaches
+
+-- where none was kept, none was broken
+pub none_least : (breaches : List Refusal) → least breaches ≡ None → breaches ≡ []
+none_least [] none = refl
+none_least (found ∷ breaches) none = absurd (none_noted found breaches none)

@@ -1,7 +1,7 @@
 -- THE laws of sequencing, by which a function that judges parts and goes on meets its contract. Each takes the contracts of the
 -- calls, one after the other, and gives the contract of what they do together. What stands later is judged in the setting of the
 -- checker that its function got: a `Setting → Judged B` is that judgement in each setting.
-use Rattle.std.proofs.Common.{◌≡◌, ℕ, ◌+◌, ◌<◌, List, [], ◌∷◌, ◌++◌, length, take, get_or, Option, Some, None, option_map, Result, Ok, Err, refl, sym, ap, ◌∙◌, subst, append_assoc, append-nil}
+use Rattle.std.proofs.Common.{◌≡◌, ℕ, ◌+◌, ◌<◌, List, [], ◌∷◌, ◌++◌, length, take, get_or, Option, Some, None, option_map, Result, Ok, Err, IsOkAnd, refl, sym, ap, ◌∙◌, subst, append_assoc, append-nil}
 use Rattle.std.specs.List.{fold}
 use Rattle.std.proofs.lemmas.List.{take_more}
 use Rattle.std.proofs.lemmas.List.Sums.{fold_more}
@@ -10,11 +10,11 @@ use Rattle.dbpl_base.specs.declared.refusal.Refusal.{Refusal}
 use Rattle.dbpl_judging.proofs.Least.{noting-append}
 use Rattle.dbpl_judging.proofs.Lists.{one_core, put_before}
 use Rattle.dbpl_judging.specs.Checking.{Checking, noting}
-use Rattle.dbpl_judging.specs.Judging.{Judges}
 use Rattle.dbpl_judging.specs.Judgements.{Judged, added, both, each, folded, of, of_both, paired, ◌>>=◌}
+use Rattle.dbpl_judging.specs.Judging.{Judges}
 use Rattle.dbpl_judging.specs.declared.setting.Setting.{Setting}
 
--- a phrase, and what is asked of its core
+-- A phrase, and what is asked of its core. The first call is one with a `?`: its contract is that at `Ok core`.
 pub then :
     {A B : Type 0} (judged : Judged A) (next : A → Judged B) (core : Option A) (result : Result (Option B) Memory) (old middle new : Checking) →
     Judges judged (Ok core) old middle → Judges (of next core) result middle new → Judges (judged >>= next) result old new
@@ -26,41 +26,54 @@ then judged next core (Ok answer) old middle new first second =
     subst (λ part. Follows part (noting judged.breaches old)) first.0 moved in
     (there.0, there.1 ∙ sym (noting-append judged.breaches (of next judged.core).breaches old))
 
--- one phrase and another beside it
-pub together :
+-- two phrases side by side, where both calls are answered
+both_answered :
     {A B : Type 0} (one : Judged A) (other : Setting → Judged B) (first : Option A) (second : Option B) (old middle new : Checking) →
     Judges one (Ok first) old middle → Judges (other middle.setting) (Ok second) middle new →
     Judges (both one (other old.setting)) (Ok (paired first second)) old new
-together one other first second old middle new is also =
+both_answered one other first second old middle new is also =
     let Follows : Checking → Type 0 = λ checker. (second ≡ (other checker.setting).core) × (new ≡ noting (other checker.setting).breaches checker) in
-    let there : Follows (noting one.breaches old) = subst Follows is.1 also in (
-      ap (λ part. paired part second) is.0 ∙ ap (λ part. paired one.core part) there.0,
-      there.1 ∙ sym (noting-append one.breaches (other old.setting).breaches old),
-    )
+    let there : Follows (noting one.breaches old) = subst Follows is.1 also in
+    (ap (λ part. paired part second) is.0 ∙ ap (λ part. paired one.core part) there.0,
+     there.1 ∙ sym (noting-append one.breaches (other old.setting).breaches old))
+
+-- Two phrases side by side, whose cores are `first` and `second`. The first call is one with a `?`, the second is handed to `pair`,
+-- whose contract is the last premise; where it is one with a `?` too, that is `(refl, refl)`.
+pub together :
+    {A B : Type 0} (one : Judged A) (other : Setting → Judged B) (begun : Option A) (answer : Result (Option B) Memory)
+    (first : Option A) (second : Option B) (old middle new : Checking) →
+    Judges one (Ok begun) old middle → Judges (other middle.setting) answer middle new → (first ≡ begun) × (answer ≡ Ok second) →
+    Judges (both one (other old.setting)) (Ok (paired first second)) old new
+together one other begun answer first second old middle new is also joined =
+    both_answered one other first second old middle new
+    (subst (λ core. Judges one (Ok core) old middle) (sym joined.0) is)
+    (subst (λ result. Judges (other middle.setting) result middle new) joined.1 also)
 
 -- two phrases side by side, and what is asked of both cores
 pub then_both :
-    {A B C : Type 0} (one : Judged A) (other : Setting → Judged B) (next : A → B → Judged C) (first : Option A) (second : Option B)
-    (result : Result (Option C) Memory) (old middle last new : Checking) →
-    Judges one (Ok first) old middle → Judges (other middle.setting) (Ok second) middle last → Judges (of_both next first second) result last new →
-    Judges (both one (other old.setting) >>= λ parts. next parts.0 parts.1) result old new
-then_both one other next first second result old middle last new is also asked =
+    {A B C : Type 0} (one : Judged A) (other : Setting → Judged B) (next : A → B → Judged C) (begun : Option A) (answer : Result (Option B) Memory)
+    (first : Option A) (second : Option B) (result : Result (Option C) Memory) (old middle last new : Checking) →
+    Judges one (Ok begun) old middle → Judges (other middle.setting) answer middle last → (first ≡ begun) × (answer ≡ Ok second) →
+    Judges (of_both next first second) result last new → Judges (both one (other old.setting) >>= λ parts. next parts.0 parts.1) result old new
+then_both one other next begun answer first second result old middle last new is also joined asked =
     then (both one (other old.setting)) (λ parts. next parts.0 parts.1) (paired first second) result old last new
-    (together one other first second old middle last is also) asked
+    (together one other begun answer first second old middle last is also joined) asked
 
--- one more turn of a loop that judges a part and asks what is asked of all so far and this part
+-- One more turn of a loop from left to right: the part at `at` is judged, `pair` joins it to what all before it make, and `next` is asked
+-- of both. The loop's invariant is the third premise: all before `at` were judged.
 pub one_more :
     {P A B : Type 0} (start : Judged A) (judge : Setting → P → Judged B) (next : P → A → B → Judged A) (phrases : List P) (at : ℕ) (phrase : P)
-    (so_far : Option A) (part : Option B) (result : Option A) (old middle last new : Checking) →
+    (begun : Option A) (answer : Result (Option B) Memory) (so_far : Option A) (part : Option B) (result : Option A)
+    (old middle last new : Checking) →
     at < length phrases → phrase ≡ get_or phrases at phrase →
-    Judges (folded (judge old.setting) next start (take at phrases)) (Ok so_far) old middle → Judges (judge middle.setting phrase) (Ok part) middle last →
-    Judges (of_both (next phrase) so_far part) (Ok result) last new →
+    Judges (folded (judge old.setting) next start (take at phrases)) (Ok begun) old middle → Judges (judge middle.setting phrase) answer middle last →
+    (so_far ≡ begun) × (answer ≡ Ok part) → Judges (of_both (next phrase) so_far part) (Ok result) last new →
     Judges (folded (judge old.setting) next start (take (at + 1) phrases)) (Ok result) old new
-one_more {P = P} {A = A} start judge next phrases at phrase so_far part result old middle last new within is before also asked =
+one_more {P = P} {A = A} start judge next phrases at phrase begun answer so_far part result old middle last new within is before also joined asked =
     let step : Judged A → P → Judged A = λ left one. both left (judge old.setting one) >>= λ parts. next one parts.0 parts.1 in
     let front : Judged A = folded (judge old.setting) next start (take at phrases) in
     let turn : Judges (step front phrase) (Ok result) old new =
-    then_both front (λ setting. judge setting phrase) (next phrase) so_far part (Ok result) old middle last new before also asked in
+    then_both front (λ setting. judge setting phrase) (next phrase) begun answer so_far part (Ok result) old middle last new before also joined asked in
     let whole : folded (judge old.setting) next start (take (at + 1) phrases) ≡ step front phrase =
     fold_more step start phrases at phrase within ∙ ap (step front) (sym is) in
     subst (λ judged. Judges judged (Ok result) old new) (sym whole) turn
@@ -82,27 +95,29 @@ each_breaches judge (first ∷ phrases) phrase =
     ∙ sym (append_assoc (judge first).breaches (each judge phrases).breaches (judge phrase).breaches)
 
 -- a list of phrases, and one more
-pub each_push :
+each_push :
     {P B : Type 0} (judge : Setting → P → Judged B) (phrases : List P) (phrase : P) (list : Option (List B)) (part : Option B)
     (old middle new : Checking) →
     Judges (each (judge old.setting) phrases) (Ok list) old middle → Judges (judge middle.setting phrase) (Ok part) middle new →
     Judges (each (judge old.setting) (phrases ++ phrase ∷ [])) (Ok (added list part)) old new
 each_push judge phrases phrase list part old middle new before also =
     let there : Judges (both (each (judge old.setting) phrases) (judge old.setting phrase)) (Ok (paired list part)) old new =
-    together (each (judge old.setting) phrases) (λ setting. judge setting phrase) list part old middle new before also in (
-      ap (option_map (λ parts. parts.0 ++ parts.1 ∷ [])) there.0 ∙ sym (each_core (judge old.setting) phrases phrase),
-      there.1 ∙ ap (λ breaches. noting breaches old) (sym (each_breaches (judge old.setting) phrases phrase)),
-    )
+    both_answered (each (judge old.setting) phrases) (λ setting. judge setting phrase) list part old middle new before also in
+    (ap (option_map (λ parts. parts.0 ++ parts.1 ∷ [])) there.0 ∙ sym (each_core (judge old.setting) phrases phrase),
+     there.1 ∙ ap (λ breaches. noting breaches old) (sym (each_breaches (judge old.setting) phrases phrase)))
 
--- one more turn of a loop that judges each phrase of a list
+-- One more turn of a loop over a list: the phrase at `at` is judged, and `pushed` adds it, whose contract is the last premise. The
+-- loop's invariant is the third premise.
 pub one_more_of_list :
-    {P B : Type 0} (judge : Setting → P → Judged B) (phrases : List P) (at : ℕ) (phrase : P) (list : Option (List B)) (part : Option B)
-    (old middle new : Checking) →
+    {P B : Type 0} (judge : Setting → P → Judged B) (phrases : List P) (at : ℕ) (phrase : P) (list : Option (List B))
+    (answer : Result (Option B) Memory) (longer : Option (List B)) (old middle new : Checking) →
     at < length phrases → phrase ≡ get_or phrases at phrase → Judges (each (judge old.setting) (take at phrases)) (Ok list) old middle →
-    Judges (judge middle.setting phrase) (Ok part) middle new →
-    Judges (each (judge old.setting) (take (at + 1) phrases)) (Ok (added list part)) old new
-one_more_of_list judge phrases at phrase list part old middle new within is before also =
+    Judges (judge middle.setting phrase) answer middle new → IsOkAnd answer (λ part. longer ≡ added list part) →
+    Judges (each (judge old.setting) (take (at + 1) phrases)) (Ok longer) old new
+one_more_of_list judge phrases at phrase list (Err error) longer old middle new within is before also joined = absurd joined
+one_more_of_list judge phrases at phrase list (Ok part) longer old middle new within is before also joined =
     let whole : take (at + 1) phrases ≡ take at phrases ++ phrase ∷ [] =
     take_more phrases at phrase within ∙ ap (λ one. take at phrases ++ one ∷ []) (sym is) in
-    subst (λ front. Judges (each (judge old.setting) front) (Ok (added list part)) old new) (sym whole)
-    (each_push judge (take at phrases) phrase list part old middle new before also)
+    subst (λ core. Judges (each (judge old.setting) (take (at + 1) phrases)) (Ok core) old new) (sym joined)
+    (subst (λ front. Judges (each (judge old.setting) front) (Ok (added list part)) old new) (sym whole)
+      (each_push judge (take at phrases) phrase list part old middle new before also))

@@ -1,7 +1,5 @@
 -- THE laws of sequencing for what declares: the same as those of phrases, with the scope handed on.
-use Rattle.std.proofs.Common.{◌≡◌, ℕ, ◌+◌, ◌-◌, ◌<◌, List, [], ◌∷◌, ◌++◌, length, take, get_or, Option, Some, option_map, Result, Ok, Err, refl, sym, ap, ◌∙◌, subst, append_assoc, append-nil, length-append, arith}
-use Rattle.std.specs.List.{slice_get}
-use Rattle.std.specs.Option.{option_map_or}
+use Rattle.std.proofs.Common.{◌≡◌, ℕ, ◌+◌, ◌<◌, List, [], ◌∷◌, ◌++◌, length, take, get_or, Option, option_map, Result, Ok, Err, IsOkAnd, refl, sym, ap, ◌∙◌, subst, append_assoc, append-nil}
 use Rattle.std.proofs.lemmas.List.{take_more}
 use Rattle.dbpl_base.specs.declared.memory.Memory.{Memory}
 use Rattle.dbpl_base.specs.declared.refusal.Refusal.{Refusal}
@@ -12,7 +10,8 @@ use Rattle.dbpl_judging.specs.Judging.{Judges}
 use Rattle.dbpl_judging.specs.Judgements.{Judged, added, paired}
 use Rattle.dbpl_judging.specs.Stages.{Adds, Staged, Stages, after, both_staged, each_staged, in_level, in_scope, leaving, under}
 use Rattle.dbpl_judging.specs.declared.setting.Setting.{Setting}
-use Rattle.dbpl_symbols.specs.Scopes.{Declarations, entered, last_of, left, with_pair, with_pairs}
+use Rattle.dbpl_symbols.proofs.ScopeLaws.{left_again}
+use Rattle.dbpl_symbols.specs.Scopes.{Declarations, entered, left, with_pair, with_pairs}
 use Rattle.dbpl_symbols.specs.declared.pair.Pair.{Pair}
 
 -- what is noted after one stage and another, in the scope behind the second
@@ -35,50 +34,31 @@ pub as_stage :
 as_stage judged (Err error) old new judges = tt
 as_stage judged (Ok core) old new judges = judges
 
--- one stage and the next
-pub together_staged :
+-- one stage and the next, where both calls are answered
+both_answered :
     {A B : Type 0} (one : Staged A) (next : Setting → Staged B) (first : Option A) (second : Option B) (old middle new : Checking) →
     Stages one (Ok first) old middle → Stages (next middle.setting) (Ok second) middle new →
     Stages (both_staged one next old.setting) (Ok (paired first second)) old new
-together_staged one next first second old middle new is also =
+both_answered one next first second old middle new is also =
     let Follows : Checking → Type 0 = λ checker.
-    (second ≡ (next checker.setting).core) × (new ≡ after (next checker.setting).breaches (next checker.setting).scope checker) in
+      (second ≡ (next checker.setting).core) × (new ≡ after (next checker.setting).breaches (next checker.setting).scope checker) in
     let there : Follows (after one.breaches one.scope old) = subst Follows is.1 also in
-    let behind : Staged _ = next (under one.scope old.setting) in (
-      ap (λ part. paired part second) is.0 ∙ ap (λ part. paired one.core part) there.0,
-      there.1 ∙ after-after one.breaches behind.breaches one.scope behind.scope old,
-    )
+    let behind : Staged _ = next (under one.scope old.setting) in
+    (ap (λ part. paired part second) is.0 ∙ ap (λ part. paired one.core part) there.0,
+     there.1 ∙ after-after one.breaches behind.breaches one.scope behind.scope old)
+
+-- One stage and the next, whose cores are `first` and `second`, as `together` of phrases.
+pub together_staged :
+    {A B : Type 0} (one : Staged A) (next : Setting → Staged B) (begun : Option A) (answer : Result (Option B) Memory)
+    (first : Option A) (second : Option B) (old middle new : Checking) →
+    Stages one (Ok begun) old middle → Stages (next middle.setting) answer middle new → (first ≡ begun) × (answer ≡ Ok second) →
+    Stages (both_staged one next old.setting) (Ok (paired first second)) old new
+together_staged one next begun answer first second old middle new is also joined =
+    both_answered one next first second old middle new
+    (subst (λ core. Stages one (Ok core) old middle) (sym joined.0) is)
+    (subst (λ result. Stages (next middle.setting) result middle new) joined.1 also)
 
 -- ---- a level that is left
-
-take-front : {A : Type 0} (front : List A) (rest : List A) → take (length front) (front ++ rest) ≡ front
-take-front [] rest = refl
-take-front (x ∷ front) rest = ap (λ xs. x ∷ xs) (take-front front rest)
-
--- the last of a list to which one was added
-slice_get-push : {A : Type 0} (xs : List A) (x : A) → slice_get (xs ++ x ∷ []) (length xs) ≡ Some x
-slice_get-push [] x = refl
-slice_get-push (y ∷ xs) x = slice_get-push xs x
-
-shorter : {A : Type 0} (xs : List A) (x : A) → length (xs ++ x ∷ []) - 1 ≡ length xs
-shorter xs x = rw (length-append xs (x ∷ [])) (omega arith)
-
-last-push : {A : Type 0} (xs : List A) (x : A) → last_of (xs ++ x ∷ []) ≡ Some x
-last-push xs x = ap (λ (n : ℕ). slice_get (xs ++ x ∷ []) n) (shorter xs x) ∙ slice_get-push xs x
-
--- A level with any number of declarations is left whole.
-pub left_again : (more : List Pair) (scope : Declarations) → left (with_pairs more (entered scope)) ≡ scope
-left_again more scope =
-    let inner : Declarations = with_pairs more (entered scope) in
-    ap
-    (λ (start : Option ℕ). option_map_or
-    (λ start. let outer : Declarations = record { pairs = take start inner.pairs; starts = take (length inner.starts - 1) inner.starts } in outer)
-    start inner)
-    (last-push scope.starts (length scope.pairs))
-    ∙ ap (λ (pairs : List Pair). let outer : Declarations = record { pairs = pairs; starts = take (length inner.starts - 1) inner.starts } in outer)
-    (take-front scope.pairs more)
-    ∙ ap (λ (starts : List ℕ). let outer : Declarations = record { pairs = scope.pairs; starts = starts } in outer)
-    (ap (λ (n : ℕ). take n inner.starts) (shorter scope.starts (length scope.pairs)) ∙ take-front scope.starts (length scope.pairs ∷ []))
 
 -- A phrase that is judged in a level of its own, with what it declares there, is judged where the level is left.
 pub level_left :
@@ -93,7 +73,7 @@ level_left inner core old entering leaving new enters stages leaves adds =
     let begun : Checking = in_scope (entered old.setting.scope) old in
     let there : Left begun = subst Left enters stages in
     let staged : Staged _ = inner begun.setting in
-    let outer : left staged.scope ≡ old.setting.scope = ap left adds.1 ∙ left_again adds.0 old.setting.scope in (
+    let outer : left staged.scope ≡ old.setting.scope = ap left adds.1 ∙ left_again old.setting.scope adds.0 in (
       there.0,
       leaves ∙ ap (λ (checker : Checking). in_scope (left checker.setting.scope) checker) there.1
           ∙ ap (λ (scope : Declarations). in_scope scope (noting staged.breaches old)) outer,
@@ -126,6 +106,11 @@ adds_both old middle new (one, first) (other, second) = (
   second ∙ ap (λ (scope : Declarations). with_pairs other scope) first
       ∙ ap (λ (pairs : List Pair). let more : Declarations = record old { pairs = pairs } in more) (append_assoc old.pairs one other),
 )
+
+pub both_adds :
+    {A B : Type 0} (one : Staged A) (next : Setting → Staged B) (setting : Setting) → Adds setting.scope one.scope →
+    Adds one.scope (next (under one.scope setting)).scope → Adds setting.scope (both_staged one next setting).scope
+both_adds one next setting first second = adds_both setting.scope one.scope (next (under one.scope setting)).scope first second
 
 pub each_adds :
     {A B : Type 0} (stage : A → Setting → Staged B) (phrases : List A) (setting : Setting) →
@@ -168,7 +153,7 @@ staged_scope stage [] phrase setting = refl
 staged_scope stage (first ∷ phrases) phrase setting = staged_scope stage phrases phrase (under (stage first setting).scope setting)
 
 -- several stages, and one more
-pub staged_push :
+staged_push :
     {P B : Type 0} (stage : P → Setting → Staged B) (phrases : List P) (phrase : P) (list : Option (List B)) (part : Option B)
     (old middle new : Checking) →
     Stages (each_staged stage phrases old.setting) (Ok list) old middle → Stages (stage phrase middle.setting) (Ok part) middle new →
@@ -176,22 +161,24 @@ pub staged_push :
 staged_push stage phrases phrase list part old middle new before also =
     let front : Staged _ = each_staged stage phrases old.setting in
     let there : Stages (both_staged front (stage phrase) old.setting) (Ok (paired list part)) old new =
-    together_staged front (stage phrase) list part old middle new before also in (
+    both_answered front (stage phrase) list part old middle new before also in (
       ap (option_map (λ parts. parts.0 ++ parts.1 ∷ [])) there.0 ∙ sym (staged_core stage phrases phrase old.setting),
       there.1
           ∙ ap (λ breaches. after breaches (stage phrase (behind stage phrases old.setting)).scope old) (sym (staged_breaches stage phrases phrase old.setting))
           ∙ ap (λ scope. after (each_staged stage (phrases ++ phrase ∷ []) old.setting).breaches scope old) (sym (staged_scope stage phrases phrase old.setting)),
     )
 
--- one more turn of a loop over stages
+-- one more turn of a loop over stages, as `one_more_of_list` of phrases
 pub one_more_stage :
-    {P B : Type 0} (stage : P → Setting → Staged B) (phrases : List P) (at : ℕ) (phrase : P) (list : Option (List B)) (part : Option B)
-    (old middle new : Checking) →
+    {P B : Type 0} (stage : P → Setting → Staged B) (phrases : List P) (at : ℕ) (phrase : P) (list : Option (List B))
+    (answer : Result (Option B) Memory) (longer : Option (List B)) (old middle new : Checking) →
     at < length phrases → phrase ≡ get_or phrases at phrase → Stages (each_staged stage (take at phrases) old.setting) (Ok list) old middle →
-    Stages (stage phrase middle.setting) (Ok part) middle new →
-    Stages (each_staged stage (take (at + 1) phrases) old.setting) (Ok (added list part)) old new
-one_more_stage stage phrases at phrase list part old middle new within is before also =
+    Stages (stage phrase middle.setting) answer middle new → IsOkAnd answer (λ part. longer ≡ added list part) →
+    Stages (each_staged stage (take (at + 1) phrases) old.setting) (Ok longer) old new
+one_more_stage stage phrases at phrase list (Err error) longer old middle new within is before also joined = absurd joined
+one_more_stage stage phrases at phrase list (Ok part) longer old middle new within is before also joined =
     let whole : take (at + 1) phrases ≡ take at phrases ++ phrase ∷ [] =
     take_more phrases at phrase within ∙ ap (λ one. take at phrases ++ one ∷ []) (sym is) in
-    subst (λ front. Stages (each_staged stage front old.setting) (Ok (added list part)) old new) (sym whole)
-    (staged_push stage (take at phrases) phrase list part old middle new before also)
+    subst (λ core. Stages (each_staged stage (take (at + 1) phrases) old.setting) (Ok core) old new) (sym joined)
+    (subst (λ front. Stages (each_staged stage front old.setting) (Ok (added list part)) old new) (sym whole)
+      (staged_push stage (take at phrases) phrase list part old middle new before also))

@@ -9,6 +9,8 @@ mod laws;
 mod nodes;
 mod parts;
 mod setting;
+#[cfg(test)]
+mod tests;
 mod typed;
 
 pub use checker::Checker;

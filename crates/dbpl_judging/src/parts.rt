@@ -1,6 +1,6 @@
 //! Parts of a tree, joined, boxed and listed. A part is let go of here, where its type is any: in a function that knows it to be
 //! a tree that costs its proof much. So no function of the rules owns a tree where it leaves by a `?` or for want of a part.
-ghost use Rattle.std.specs.Prelude.{◌≡◌, IfOk, Ok, Some};
+ghost use Rattle.std.specs.Prelude.{◌≡◌, IfOk, IsOkAnd, Ok};
 ghost use Rattle.dbpl_judging.specs.Judgements.{added, paired};
 ghost use Rattle.dbpl_judging.specs.Parts.{with_part};
 
@@ -51,7 +51,7 @@ pub fn pushed<T: Drop>(
     list: Option<List<T>>,
     part: Result<Option<T>, Memory>,
 ) -> Result<Option<List<T>>, Memory>
-    ensures { IfOk result (λ longer. IfOk part (λ part. longer ≡ added list part)) }
+    ensures { IfOk result (λ longer. IsOkAnd part (λ part. longer ≡ added list part)) }
 {
     match both_of(list, part?) {
         Some((mut list, part)) => {
