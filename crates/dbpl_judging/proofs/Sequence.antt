@@ -1,12 +1,10 @@
 -- THE laws of sequencing, by which a function that judges parts and goes on meets its contract. Each takes the contracts of the
 -- calls, one after the other, and gives the contract of what they do together. What stands later is judged in the setting of the
 -- checker that its function got: a `Setting → Judged B` is that judgement in each setting.
-use Rattle.std.proofs.Common.{◌≡◌, ℕ, ◌+◌, ◌<◌, List, [], ◌∷◌, ◌++◌, length, take, get_or, Option, Some, None, option_map, Result, Ok, Err, IsOkAnd, refl, sym, ap, ◌∙◌, subst, append_assoc, append-nil}
-use Rattle.std.specs.List.{fold}
+use Rattle.std.proofs.Common.{◌≡◌, ℕ, ◌+◌, ◌<◌, List, [], ◌∷◌, ◌++◌, length, take, get_or, Option, option_map, Result, Ok, Err, IsOkAnd, sym, ap, ◌∙◌, subst, append_assoc, append-nil}
 use Rattle.std.proofs.lemmas.List.{take_more}
 use Rattle.std.proofs.lemmas.List.Sums.{fold_more}
 use Rattle.dbpl_base.specs.declared.memory.Memory.{Memory}
-use Rattle.dbpl_base.specs.declared.refusal.Refusal.{Refusal}
 use Rattle.dbpl_judging.proofs.Least.{noting-append}
 use Rattle.dbpl_judging.proofs.Lists.{one_core, put_before}
 use Rattle.dbpl_judging.specs.Checking.{Checking, noting}

@@ -1,5 +1,5 @@
 -- That nothing is refused without a breach.
-use Rattle.std.specs.Prelude.{◌≡◌, ℕ, List, [], Option, Some, None}
+use Rattle.std.specs.Prelude.{◌≡◌, ℕ, List, [], Some, None}
 use Rattle.dbpl_judging.specs.Judgements.{Judged}
 use Rattle.dbpl_judging.specs.Stages.{Staged}
 use Rattle.dbpl_symbols.specs.Scopes.{Declarations, seen}

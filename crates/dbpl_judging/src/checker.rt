@@ -31,9 +31,13 @@ pub struct Checker {
 }
 
 impl Model for Checker {
+    ghost use Rattle.std.specs.Coded.{codes};
     ghost use Rattle.dbpl_judging.specs.Checking.{Checking};
+    ghost use Rattle.dbpl_judging.specs.contracts.setting.Setting as settings;
 
     ghost Value = { Checking };
+
+    ghost coded = { Prim.hlevel (codes, settings.the_row.coded) };
 
     ghost view = { λ checker. record { setting = checker.setting; least = checker.least } };
 }
