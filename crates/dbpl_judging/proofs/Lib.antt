@@ -1,3 +1,4 @@
+pub mod Examples
 pub mod Least
 pub mod Lists
 pub mod Sequence

@@ -31,9 +31,10 @@ both_answered :
     Judges (both one (other old.setting)) (Ok (paired first second)) old new
 both_answered one other first second old middle new is also =
     let Follows : Checking → Type 0 = λ checker. (second ≡ (other checker.setting).core) × (new ≡ noting (other checker.setting).breaches checker) in
-    let there : Follows (noting one.breaches old) = subst Follows is.1 also in
-    (ap (λ part. paired part second) is.0 ∙ ap (λ part. paired one.core part) there.0,
-     there.1 ∙ sym (noting-append one.breaches (other old.setting).breaches old))
+    let there : Follows (noting one.breaches old) = subst Follows is.1 also in (
+      ap (λ part. paired part second) is.0 ∙ ap (λ part. paired one.core part) there.0,
+      there.1 ∙ sym (noting-append one.breaches (other old.setting).breaches old),
+    )
 
 -- Two phrases side by side, whose cores are `first` and `second`. The first call is one with a `?`, the second is handed to `pair`,
 -- whose contract is the last premise; where it is one with a `?` too, that is `(refl, refl)`.
@@ -100,9 +101,10 @@ each_push :
     Judges (each (judge old.setting) (phrases ++ phrase ∷ [])) (Ok (added list part)) old new
 each_push judge phrases phrase list part old middle new before also =
     let there : Judges (both (each (judge old.setting) phrases) (judge old.setting phrase)) (Ok (paired list part)) old new =
-    both_answered (each (judge old.setting) phrases) (λ setting. judge setting phrase) list part old middle new before also in
-    (ap (option_map (λ parts. parts.0 ++ parts.1 ∷ [])) there.0 ∙ sym (each_core (judge old.setting) phrases phrase),
-     there.1 ∙ ap (λ breaches. noting breaches old) (sym (each_breaches (judge old.setting) phrases phrase)))
+    both_answered (each (judge old.setting) phrases) (λ setting. judge setting phrase) list part old middle new before also in (
+      ap (option_map (λ parts. parts.0 ++ parts.1 ∷ [])) there.0 ∙ sym (each_core (judge old.setting) phrases phrase),
+      there.1 ∙ ap (λ breaches. noting breaches old) (sym (each_breaches (judge old.setting) phrases phrase)),
+    )
 
 -- One more turn of a loop over a list: the phrase at `at` is judged, and `pushed` adds it, whose contract is the last premise. The
 -- loop's invariant is the third premise.
@@ -118,4 +120,4 @@ one_more_of_list judge phrases at phrase list (Ok part) longer old middle new wi
     take_more phrases at phrase within ∙ ap (λ one. take at phrases ++ one ∷ []) (sym is) in
     subst (λ core. Judges (each (judge old.setting) (take (at + 1) phrases)) (Ok core) old new) (sym joined)
     (subst (λ front. Judges (each (judge old.setting) front) (Ok (added list part)) old new) (sym whole)
-      (each_push judge (take at phrases) phrase list part old middle new before also))
+    (each_push judge (take at phrases) phrase list part old middle new before also))

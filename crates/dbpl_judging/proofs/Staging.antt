@@ -41,11 +41,12 @@ both_answered :
     Stages (both_staged one next old.setting) (Ok (paired first second)) old new
 both_answered one next first second old middle new is also =
     let Follows : Checking → Type 0 = λ checker.
-      (second ≡ (next checker.setting).core) × (new ≡ after (next checker.setting).breaches (next checker.setting).scope checker) in
+    (second ≡ (next checker.setting).core) × (new ≡ after (next checker.setting).breaches (next checker.setting).scope checker) in
     let there : Follows (after one.breaches one.scope old) = subst Follows is.1 also in
-    let behind : Staged _ = next (under one.scope old.setting) in
-    (ap (λ part. paired part second) is.0 ∙ ap (λ part. paired one.core part) there.0,
-     there.1 ∙ after-after one.breaches behind.breaches one.scope behind.scope old)
+    let behind : Staged _ = next (under one.scope old.setting) in (
+      ap (λ part. paired part second) is.0 ∙ ap (λ part. paired one.core part) there.0,
+      there.1 ∙ after-after one.breaches behind.breaches one.scope behind.scope old,
+    )
 
 -- One stage and the next, whose cores are `first` and `second`, as `together` of phrases.
 pub together_staged :
@@ -181,4 +182,4 @@ one_more_stage stage phrases at phrase list (Ok part) longer old middle new with
     take_more phrases at phrase within ∙ ap (λ one. take at phrases ++ one ∷ []) (sym is) in
     subst (λ core. Stages (each_staged stage (take (at + 1) phrases) old.setting) (Ok core) old new) (sym joined)
     (subst (λ front. Stages (each_staged stage front old.setting) (Ok (added list part)) old new) (sym whole)
-      (staged_push stage (take at phrases) phrase list part old middle new before also))
+    (staged_push stage (take at phrases) phrase list part old middle new before also))

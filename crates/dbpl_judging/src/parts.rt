@@ -1,6 +1,6 @@
 //! Parts of a tree, joined, boxed and listed. A part is let go of here, where its type is any: in a function that knows it to be
 //! a tree that costs its proof much. So no function of the rules owns a tree where it leaves by a `?` or for want of a part.
-ghost use Rattle.std.specs.Prelude.{◌≡◌, IfOk, IsOkAnd, Ok};
+ghost use Rattle.std.specs.Prelude.{◌≡◌, Err, IfErr, IfOk, IsOkAnd, Ok};
 ghost use Rattle.dbpl_judging.specs.Judgements.{added, paired};
 ghost use Rattle.dbpl_judging.specs.Parts.{with_part};
 
@@ -9,7 +9,8 @@ use std::alloc::Global;
 
 /// A part that was judged, and the next one, or its want of memory.
 pub fn pair<A: Drop, B: Drop>(one: A, other: Result<B, Memory>) -> Result<(A, B), Memory>
-    ensures { IfOk result (λ both. (both.0 ≡ one) × (other ≡ Ok both.1)) }
+    ensures ok { IfOk result (λ both. (both.0 ≡ one) × (other ≡ Ok both.1)) }
+    ensures err { IfErr result (λ error. other ≡ Err error) }
 {
     Ok((one, other?))
 }
