@@ -1,8 +1,7 @@
 -- Worked judgements. `b := 1 + TRUE`, where b is a BOOLEAN, breaks S25 at the operator and nothing else: the assignment has no
 -- right side of which S54 could be asked.
-use Rattle.std.proofs.Common.{◌≡◌, ℕ, Bool, true, false, not, ◌&&◌, List, [], ◌∷◌, Some, None, refl}
+use Rattle.std.proofs.Common.{◌≡◌, ℕ, Bool, true, false, not, ◌&&◌, [], ◌∷◌, Some, None, refl}
 use Rattle.dbpl_base.specs.declared.place.Place.{Place}
-use Rattle.dbpl_base.specs.declared.refusal.Refusal.{Refusal}
 use Rattle.dbpl_judging.specs.Checking.{least}
 use Rattle.dbpl_judging.specs.Judgements.{Judged, asks, both, breach_of, breaks, each, folded, good, silent, unbuilt, ◌>>=◌, ◌>>◌}
 use Rattle.dbpl_judging.specs.declared.kind.Kind.{Kind}
