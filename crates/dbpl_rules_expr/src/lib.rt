@@ -1,0 +1,2 @@
+//! The rules of expressions: each is its resolved phrase, or breaks a rule.
+#![tactic(auto)]
