@@ -22,11 +22,11 @@ abbrev pub valued : CoreExpr → Typed → Argument
 valued tree e = arguments.Value (record e { tree = tree })
 
 -- for a parameter that stands for a value
-abbrev pub value_argument : DbType → Typed → Judged Argument
+unfoldable pub value_argument : DbType → Typed → Judged Argument
 value_argument t e = asks 37 e.facts.place (S37 t e.facts) >> good (valued (fitted t e) e)
 
 -- for a VAR parameter
-abbrev pub variable_argument : DbType → Denoted → Judged Argument
+unfoldable pub variable_argument : DbType → Denoted → Judged Argument
 variable_argument t denoted = asks 38 denoted.designator.place (S38 t denoted) >> good (arguments.Variable denoted)
 
 -- the argument of ABS is tested for its fit
@@ -35,17 +35,17 @@ standard_tree standard.Abs e = fitted types.Int e
 standard_tree _ e = as_ordinal e
 
 -- for a standard procedure
-abbrev pub standard_argument : StandardProcedure → Typed → Judged Argument
+unfoldable pub standard_argument : StandardProcedure → Typed → Judged Argument
 standard_argument which e = asks 40 e.facts.place (S40 which e.facts) >> good (valued (standard_tree which e) e)
 
 -- for INC and DEC, which change it
-abbrev pub counted_argument : Denoted → Judged Argument
+unfoldable pub counted_argument : Denoted → Judged Argument
 counted_argument denoted =
     both (asks 40 denoted.designator.place (S40_type denoted.kind)) (asks 53 denoted.designator.place denoted.may_change) >>
     good (arguments.Variable denoted)
 
 -- the name of a type, which stands at this place, for MIN, MAX and VAL
-abbrev pub kind_argument : Place → DbType → Judged Argument
+unfoldable pub kind_argument : Place → DbType → Judged Argument
 kind_argument place t = asks 40 place (S40_type t) >> good (arguments.Kind t)
 
 abbrev pub are_characters : Kind → Bool
@@ -54,5 +54,5 @@ are_characters (phrases.Of t) = is_char_array t
 are_characters _ = false
 
 -- for WriteString: a string, or an array of CHAR of any length. It prints a string, which needs no type of array for that.
-abbrev pub characters_argument : Typed → Judged Argument
+unfoldable pub characters_argument : Typed → Judged Argument
 characters_argument e = asks 40 e.facts.place (are_characters e.facts.kind) >> good (valued e.tree e)

@@ -112,8 +112,8 @@ built_level (decls.Standard which) = if is_built which then good tt else unbuilt
 built_level _ = good tt
 
 -- the rules that the name of a function and the number of its arguments keep, whatever these arguments are
-abbrev pub function_rules : Place → Decl → ℕ → Judged Decl
-function_rules place decl count =
+unfoldable pub function_rules : Place → ℕ → Decl → Judged Decl
+function_rules place count decl =
     both (asks 36 place (S36 decl count)) (both (asks 39 place (S39 decl)) (built_level (out-Decl decl))) >> good decl
 
 abbrev pub result_level : {D E P : Type 0} → Place → Decl-F D E P → List Argument → Judged Typed
@@ -122,5 +122,5 @@ result_level place (decls.Standard which) given = standard_result place which gi
 result_level place _ given = silent
 
 -- THE judgement of a call in an expression, whose name and arguments are judged
-abbrev pub called : Place → Decl → List Argument → Judged Typed
+unfoldable pub called : Place → Decl → List Argument → Judged Typed
 called place decl given = result_level place (out-Decl decl) given

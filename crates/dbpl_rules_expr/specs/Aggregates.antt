@@ -33,7 +33,7 @@ fitted_parts (t ∷ ts) [] = []
 fitted_parts (t ∷ ts) (part ∷ parts) = fitted t part ∷ fitted_parts ts parts
 
 -- THE judgement of an aggregate, which begins at this place, whose type and elements are judged
-abbrev pub packed : Place → DbType → List Typed → Judged Typed
+unfoldable pub packed : Place → DbType → List Typed → Judged Typed
 packed place t parts =
     asks 41 place (S41 t) >> asks 42 place (S42 t (map (λ part. part.facts) parts)) >>
     good (computed_value place t (trees.Packed place t (fitted_parts (part_types t) parts)))

@@ -1,5 +1,5 @@
 -- Calls: what stands between their parentheses, place by place.
-use Rattle.std.specs.Prelude.{ℕ, Bool, true, false, not, ◌&&◌, if◌then◌else◌, is_some, List, [], ◌∷◌, length, Option, Some, None, option_and_then}
+use Rattle.std.specs.Prelude.{ℕ, Bool, true, false, not, ◌&&◌, if◌then◌else◌, is_some, List, [], ◌∷◌, length, Option, Some, None}
 use Rattle.std.specs.Option.{option_map_or}
 use Rattle.dbpl_base.specs.declared.place.Place.{Place}
 use Rattle.dbpl_judging.specs.Judgements.{Judged, both, breaks, each, good, made, ◌>>=◌, ◌>>◌}
@@ -16,8 +16,7 @@ use Rattle.dbpl_rules_expr.specs.Designators.{alone}
 use Rattle.dbpl_rules_expr.specs.Names.{Named}
 use Rattle.dbpl_symbols.specs.declared.decl.Decl.{Decl, Decl-F, out-Decl}
 use Rattle.dbpl_symbols.specs.declared.decl.Decl.TheOpen as decls
-use Rattle.dbpl_tree.specs.Plain.{arguments_in, is_empty}
-use Rattle.dbpl_tree.specs.declared.designator.ArgumentsOf.{ArgumentsOf}
+use Rattle.dbpl_tree.specs.Plain.{is_empty}
 use Rattle.dbpl_tree.specs.declared.expr.ExprOf.{ExprOf}
 use Rattle.dbpl_value.specs.declared.db_type.DbType.{DbType}
 
@@ -81,13 +80,14 @@ routine place decl = routine_level place decl (out-Decl decl)
 abbrev pub routine_named : {F : Type 0} → (ExprOf F → Judged Typed) → Place → Named F → Judged Decl
 routine_named expr place name = alone expr place (routine place) name name.parts
 
--- THE judgement of a call, which begins at this place, in an expression. S36 and S39 are asked of its name alone, whatever the
--- arguments break.
+-- A call whose name and arguments are judged. S36 and S39 are asked of the name alone, whatever the arguments break.
+abbrev pub call_of : Place → Judged Decl → ℕ → Judged (List Argument) → Judged Typed
+call_of place callee count arguments =
+    both (callee >>= function_rules place count) arguments >>= λ found. called place found.0 found.1
+
+-- THE judgement of a call in an expression, which begins at this place: its name, and what stands in its parentheses
 abbrev pub call :
-    {F : Type 0} → (ExprOf F → Given) → (ExprOf F → Judged Typed) → Place → Named F → ArgumentsOf F → Judged Typed
-call given expr place name a =
+    {F : Type 0} → (ExprOf F → Given) → (ExprOf F → Judged Typed) → Place → Named F → List (ExprOf F) → Judged Typed
+call given expr place name es =
     let callee = routine_named expr place name in
-    let count = length (arguments_in a) in
-    both (callee >>= λ decl. function_rules place decl count)
-    (arguments_for given (asked_by callee.core count) (arguments_in a)) >>= λ found.
-    called place found.0 found.1
+    call_of place callee (length es) (arguments_for given (asked_by callee.core (length es)) es)

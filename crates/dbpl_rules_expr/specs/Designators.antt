@@ -66,9 +66,13 @@ with_step step t denoted = record denoted {
   kind = t;
 }
 
-abbrev pub at_field : Place → Option (ℕ × DbType) → Denoted → Judged Denoted
-at_field place None denoted = breaks 32 place
-at_field place (Some field) denoted = good (with_step (steps.Field field.0) field.1 denoted)
+abbrev pub to_field : Place → Denoted → Option (ℕ × DbType) → Judged Denoted
+to_field place denoted None = breaks 32 place
+to_field place denoted (Some field) = good (with_step (steps.Field field.0) field.1 denoted)
+
+-- a field of this name, which stands at this place
+abbrev pub at_field : Place → List ℕ → Denoted → Judged Denoted
+at_field place name denoted = to_field place denoted (S32 denoted.kind name)
 
 -- brackets after a relation aren't built yet
 abbrev pub built : Denoted → Judged Denoted
@@ -84,16 +88,16 @@ at_index (index ∷ []) denoted =
 at_index _ denoted = good denoted
 
 -- brackets at this place with indices that are judged, the first of which begins at `first`
-abbrev pub at_subscripts : Place → Place → List Typed → Denoted → Judged Denoted
-at_subscripts place first indices denoted =
+unfoldable pub at_subscripts : Place → Place → Denoted → List Typed → Judged Denoted
+at_subscripts place first denoted indices =
     asks 33 place (S33 denoted.kind) >> asks 34 first (S34 denoted.kind (map (λ index. index.facts) indices)) >>
     at_index indices denoted
 
 -- one part more, whose indices are judged whatever stands before them
 abbrev pub at_part : {F : Type 0} → (ExprOf F → Judged Typed) → Judged Denoted → PartOf F → Judged Denoted
-at_part expr before (parts.Field x) = before >>= λ denoted. at_field x.place (S32 denoted.kind x.name) denoted
+at_part expr before (parts.Field x) = before >>= at_field x.place x.name
 at_part expr before (parts.Subscripts place es) =
-    both (before >>= built) (each expr (exprs_in es)) >>= λ found. at_subscripts place es.first.place found.1 found.0
+    both (before >>= built) (each expr (exprs_in es)) >>= λ found. at_subscripts place es.first.place found.0 found.1
 
 -- THE judgement of a name, which begins at this place, with the parts behind it, as a variable or a part of one
 abbrev pub denoted : {F : Type 0} → (ExprOf F → Judged Typed) → Place → Named F → Judged Denoted
@@ -134,10 +138,13 @@ abbrev pub is_alone : {F : Type 0} → List (PartOf F) → Bool
 is_alone [] = true
 is_alone (part ∷ others) = false
 
+abbrev pub means_kind_or_module : Option Decl → Bool
+means_kind_or_module None = false
+means_kind_or_module (Some decl) = is_kind_or_module_level (out-Decl decl)
+
 -- the name of a type or a module alone, which breaks no rule where nothing is asked
 abbrev pub is_kind_or_module : {F : Type 0} → Named F → Bool
-is_kind_or_module name =
-    is_alone name.parts && option_map_or (λ decl. is_kind_or_module_level (out-Decl decl)) name.decl.core false
+is_kind_or_module name = is_alone name.parts && means_kind_or_module name.decl.core
 
 -- ---- operands
 

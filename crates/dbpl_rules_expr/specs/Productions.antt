@@ -1,6 +1,5 @@
 -- THE judgements of the productions of an expression, each by what a factor gives.
 use Rattle.std.specs.Prelude.{Bool, List, [], ◌∷◌, pos, Option, Some, None}
-use Rattle.std.specs.Option.{option_map_or}
 use Rattle.dbpl_base.specs.declared.place.Place.{Place}
 use Rattle.dbpl_core.specs.declared.arithmetic_operator.ArithmeticOperator.TheVariants as arithmetic_operators
 use Rattle.dbpl_core.specs.declared.logical_operator.LogicalOperator.TheVariants as logical_operators
@@ -18,11 +17,13 @@ use Rattle.dbpl_rules_expr.specs.Names.{Named, named, named_qual}
 use Rattle.dbpl_rules_operators.specs.Literals.{character, number, text}
 use Rattle.dbpl_rules_operators.specs.Operators.{arithmetic, compared, logical, negated, signed}
 use Rattle.dbpl_tree.specs.FirstTokens.{designator_place, qual_place}
+use Rattle.dbpl_tree.specs.Plain.{arguments_in}
 use Rattle.dbpl_tree.specs.declared.aggregate.Aggregate.{Aggregate-F}
 use Rattle.dbpl_tree.specs.declared.designator.ArgumentsOf.{ArgumentsOf}
 use Rattle.dbpl_tree.specs.declared.designator.DesignatorOf.{DesignatorOf}
 use Rattle.dbpl_tree.specs.declared.element.Element.{Element-F}
 use Rattle.dbpl_tree.specs.declared.element.Element.TheOpen as forms
+use Rattle.dbpl_tree.specs.declared.expr.ComparedOf.{ComparedOf}
 use Rattle.dbpl_tree.specs.declared.expr.ExprOf.{ExprOf}
 use Rattle.dbpl_tree.specs.declared.factor.Factor.{Factor-F}
 use Rattle.dbpl_tree.specs.declared.operators.AddingOperator.{AddingOperator}
@@ -76,12 +77,14 @@ abbrev pub simple : {F : Type 0} → (F → Judged Typed) → SimpleOf F → Jud
 simple factor s =
     folded (λ a. term factor a.term) (λ a. added a.place a.operator) (signed_term s.place s.sign (term factor s.first)) s.others
 
+-- a left side, and what is compared with it
+abbrev pub with_right : {F : Type 0} → (F → Judged Typed) → Judged Typed → Option (ComparedOf F) → Judged Typed
+with_right factor left None = left
+with_right factor left (Some c) =
+    both left (simple factor c.right) >>= λ sides. compared c.place (relation_of c.relation) sides.0 sides.1
+
 abbrev pub expr : {F : Type 0} → (F → Judged Typed) → ExprOf F → Judged Typed
-expr factor e =
-    option_map_or
-    (λ c. both (simple factor e.left) (simple factor c.right) >>= λ sides.
-    compared c.place (relation_of c.relation) sides.0 sides.1)
-    e.right (simple factor e.left)
+expr factor e = with_right factor (simple factor e.left) e.right
 
 -- ---- what each kind of factor is
 
@@ -109,7 +112,7 @@ abbrev pub called_or_not : {F : Type 0} → (F → Given) → Setting → Design
 called_or_not factor setting d None = designator factor setting d
 called_or_not factor setting d (Some a) =
     only_value
-    (call (given_by factor (value factor)) (value factor) (designator_place d) (named setting d.head d.parts) a)
+    (call (given_by factor (value factor)) (value factor) (designator_place d) (named setting d.head d.parts) (arguments_in a))
 
 -- ---- one level of a factor, an aggregate and an element, over what the phrases in it are
 

@@ -25,6 +25,10 @@ abbrev pub S15 : Option ℤ → Bool
 S15 None = true
 S15 (Some n) = is_in whole_constants n
 
+-- a constant that keeps the rule, or no constant
+abbrev pub lawful : Option ℤ → Option (Option ℤ)
+lawful number = if S15 number then Some number else None
+
 abbrev pub is_division : ArithmeticOperator → Bool
 is_division arithmetic.Div = true
 is_division arithmetic.Mod = true
