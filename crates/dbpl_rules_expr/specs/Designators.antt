@@ -115,7 +115,7 @@ abbrev pub alone :
     {F A : Type 0} → (ExprOf F → Judged Typed) → Place → (Decl → Judged A) → Named F → List (PartOf F) → Judged A
 alone expr place judge name [] = name.decl >>= judge
 alone expr place judge name others =
-    both (name.decl >>= λ decl. breaks 12 place) (each (part_indices expr) others) >>= λ found. found.0
+    made (λ found. found.0) (both (name.decl >>= λ decl. breaks 12 place) (each (part_indices expr) others))
 
 abbrev pub kind_level : {D E P : Type 0} → Place → Decl-F D E P → Judged DbType
 kind_level place (decls.Kind t) = good t
