@@ -115,10 +115,10 @@ brace-with :
     {F G : Type 0} (h : F → G) (judge : ExprOf G → Judged Typed) (other : ExprOf F → Judged Typed) →
     ((e : ExprOf F) → judge (expr_with h e) ≡ other e) → (setting : Setting) (place : Place) (head : Ident)
     (second : Option Ident) →
-    alone judge place (brace place) (named setting head (option_to_list (option_map parts.Field second)))
-    (named setting head (option_to_list (option_map (parts.Field {F = G}) second))).parts
-    ≡ alone other place (brace place) (named setting head (option_to_list (option_map parts.Field second)))
-    (named setting head (option_to_list (option_map (parts.Field {F = F}) second))).parts
+    alone judge place (brace place) (named_qual {F = G} setting (record { first = head; second = second }))
+    (named_qual {F = G} setting (record { first = head; second = second })).parts
+    ≡ alone other place (brace place) (named_qual {F = F} setting (record { first = head; second = second }))
+    (named_qual {F = F} setting (record { first = head; second = second })).parts
 brace-with h judge other same setting place head None =
     ap (λ name. alone judge place (brace place) name name.parts) (named-with h setting head [])
     ∙ alone-with h judge other same place (brace place) (named setting head []) (named setting head []).parts

@@ -140,8 +140,8 @@ module _
   alone-with place asks_of name [] = refl
   alone-with {A = A} place asks_of name (part ∷ taken) =
       let broken : Judged A = name.decl >>= λ decl. breaks 12 place in
-      λ i. both broken (each-with (part_with h) (part_indices judge) (part_indices other) indices-with (part ∷ taken) i) >>= λ found.
-      found.0
+      λ i. made (λ found. found.0)
+      (both broken (each-with (part_with h) (part_indices judge) (part_indices other) indices-with (part ∷ taken) i))
 
   constant-with :
       (place : Place) (taken : List (PartOf F)) (decl : Option Decl) →
