@@ -107,12 +107,15 @@ impl<T: Drop> List<T> {
         self.items.truncate(count);
     }
 
-    /// Puts the item before the one that stands at `at`.
+    /// Puts the item before the one that stands at `at`. The first takes room for itself alone, as in `push`.
     pub fn insert(&mut self, at: usize, item: T) -> Result<(), Memory>
         requires { at ≤ length self.old }
         ensures ok { OnOk result (self.new ≡ insert self.old at item) }
         ensures err { OnErr result (self.new ≡ self.old) }
     {
+        if self.items.capacity() == 0 {
+            self.items.reserve_exact(1)?;
+        }
         self.items.insert(at, item)?;
         Ok(())
     }

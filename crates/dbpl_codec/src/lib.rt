@@ -8,8 +8,6 @@ mod laws;
 mod numbers;
 mod read_err;
 mod reads;
-#[cfg(test)]
-mod tests;
 mod type_reads;
 mod types;
 mod values;

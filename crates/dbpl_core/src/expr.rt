@@ -9,7 +9,8 @@ use dbpl_value::DbType;
 /// and each place is there that a trap may name.
 ///
 /// The first place of a form is that of its first token in the text, and the other parts follow in the order of the text.
-/// Parentheses are no form: a phrase in them begins at `(`.
+/// Parentheses are no form: what stands in them keeps its own places, and so its traps (a sign's at the sign, a call's at
+/// its name). A form around them begins at `(`: a value that must fit a type, and an index, are placed there.
 #[cycle(core_exprs)]
 #[derive(Drop)]
 pub enum CoreExpr {

@@ -8,15 +8,13 @@ ghost use Rattle.dbpl_symbols.specs.Scopes.{entered, left, with_pair};
 
 use crate::Setting;
 use crate::nodes::room_behind;
+use dbpl_base::limits::TYPE_NODES;
 use dbpl_base::{Memory, Name, Place, Refusal, Shared};
 use dbpl_symbols::{Decl, Origin};
 use dbpl_value::{DbType, Head, copy_type};
 use std::alloc::Global;
 use std::marker::Model;
 use std::mem;
-
-/// How many nodes of types are built for one program at most.
-const NODES: u32 = 4_194_304;
 
 /// The rule on what isn't built yet.
 const UNBUILT: u16 = 109;
@@ -50,7 +48,7 @@ impl Checker {
         Checker {
             setting,
             least: None,
-            room: NODES,
+            room: TYPE_NODES,
         }
     }
 

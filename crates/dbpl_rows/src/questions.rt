@@ -31,6 +31,8 @@ fn about_keys(alloc: Global, kind: &str, parts: &Parts) -> Result<Answer, Failur
         "remove" => relations::removed(alloc, parts),
         "replace" => relations::replaced(alloc, parts),
         "find" => relations::found(alloc, parts),
+        "assign" => relations::assigned(alloc, parts),
+        "select" => relations::selected(alloc, parts),
         _ => about_whole(alloc, kind, parts),
     }
 }

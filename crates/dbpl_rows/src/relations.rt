@@ -10,7 +10,7 @@ use crate::parts::Parts;
 use crate::types::type_in;
 use crate::values::{spelt, value_in};
 use dbpl_base::Steps;
-use dbpl_relation::{ChangeErr, find, insert, remove, replace};
+use dbpl_relation::{ChangeErr, Op, assign_through, find, insert, remove, replace, select};
 use dbpl_value::{DbType, Value, element_of, parts_of};
 use std::alloc::Global;
 use std::marker::Brand;
@@ -34,10 +34,37 @@ pub(crate) fn inserted(alloc: Global, parts: &Parts) -> Result<Answer, Failure> 
     let right = value_in(alloc, &t, parts, 2)?;
     match insert(alloc, &t, &mut relation, &right) {
         Ok(()) => spelt(alloc, &t, &relation),
-        Err(ChangeErr::Clash(number)) => Ok(Answer::At("clash", number)),
-        Err(ChangeErr::Outside(number)) => Ok(Answer::At("outside", number)),
-        Err(ChangeErr::Memory) => Err(Failure::Memory),
+        Err(refusal) => refused(refusal),
     }
+}
+
+fn refused(refusal: ChangeErr) -> Result<Answer, Failure> {
+    match refusal {
+        ChangeErr::Clash(number) => Ok(Answer::At("clash", number)),
+        ChangeErr::Outside(number) => Ok(Answer::At("outside", number)),
+        ChangeErr::Memory => Err(Failure::Memory),
+    }
+}
+
+/// The first relation after the second was assigned to it, through a selector that every record passes.
+pub(crate) fn assigned(alloc: Global, parts: &Parts) -> Result<Answer, Failure> {
+    let t = relation_in(alloc, parts, 0)?;
+    let mut relation = value_in(alloc, &t, parts, 1)?;
+    let right = value_in(alloc, &t, parts, 2)?;
+    let everywhere = |_: &Value| true;
+    match assign_through(alloc, &t, &mut relation, everywhere, Op::Set, &right) {
+        Ok(()) => spelt(alloc, &t, &relation),
+        Err(refusal) => refused(refusal),
+    }
+}
+
+/// The records that are selected where every one is.
+pub(crate) fn selected(alloc: Global, parts: &Parts) -> Result<Answer, Failure> {
+    let t = relation_in(alloc, parts, 0)?;
+    let relation = value_in(alloc, &t, parts, 1)?;
+    let everywhere = |_: &Value| true;
+    let records = select(alloc, &t, &relation, everywhere)?;
+    spelt(alloc, &t, &records)
 }
 
 /// The first relation after the second was taken away from it.

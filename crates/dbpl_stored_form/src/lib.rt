@@ -14,8 +14,6 @@ mod reading;
 mod schema;
 mod statements;
 mod storing;
-#[cfg(test)]
-mod tests;
 
 pub use form::stored;
 pub use laws::{one_answer, stored_is_small};

@@ -1,5 +1,5 @@
 -- Laws of what a scope holds, step by step: how it begins, and that each step keeps its invariant.
-use Rattle.std.proofs.Common.{◌≡◌, ◌∙◌, ℕ, ◌+◌, ◌-◌, ◌<◌, ◌≤◌, List, [], ◌∷◌, ◌++◌, drop, filter, length, map, take, Result, Ok, Err, OnOk, OnErr, refl, ap, sym, subst, arith}
+use Rattle.std.proofs.Common.{◌≡◌, ◌∙◌, ℕ, ◌+◌, ◌-◌, ◌<◌, ◌≤◌, List, [], ◌∷◌, ◌++◌, drop, filter, length, take, Result, Ok, Err, OnOk, OnErr, ap, sym, subst, arith}
 use Rattle.std.proofs.lemmas.List.{drop-map, length-map, length-take-le, length_push, take-map, take-take, take_all}
 use Rattle.std.specs.BTreeMap.{BTreeMap, is_at}
 use Rattle.std.specs.Cmp.Lexicographic.{slice_cmp}
@@ -7,7 +7,7 @@ use Rattle.std.specs.Map.{lookup}
 use Rattle.std.specs.Ordering.{nat_cmp}
 use Rattle.dbpl_symbols.proofs.ScopeLaws.{left-push, rise-enter, rise-leave, rise-more, scope_of}
 use Rattle.dbpl_symbols.specs.Interfaces.{is_own}
-use Rattle.dbpl_symbols.specs.Places.{IsHeld, IsIndexed, pairs_of, spot}
+use Rattle.dbpl_symbols.specs.Places.{IsHeld, pairs_of, spot}
 use Rattle.dbpl_symbols.specs.Scopes.{Declarations, RiseTo, left}
 use Rattle.dbpl_symbols.specs.declared.held.Held.{Held}
 use Rattle.dbpl_symbols.specs.declared.pair.Pair.{Pair}

@@ -1,6 +1,6 @@
 -- Laws of scopes over plain variables: what is left of a level, and that the flat form is the levels one behind the other.
-use Rattle.std.proofs.Common.{◌≡◌, ◌∙◌, ℕ, ◌+◌, ◌-◌, ◌≤◌, suc, zero, Bool, cond, List, [], ◌∷◌, ◌++◌, length, map, drop, take, reverse, flat_map, Option, Some, None, refl, ap, ap₂, sym, subst, arith}
-use Rattle.std.proofs.Math.Seq.{drop-append_seam, drop-length, take-append_seam}
+use Rattle.std.proofs.Common.{◌≡◌, ◌∙◌, ℕ, ◌+◌, ◌-◌, ◌≤◌, List, [], ◌∷◌, ◌++◌, length, drop, take, reverse, flat_map, Option, Some, None, refl, ap, ap₂, sym, arith}
+use Rattle.std.proofs.Math.Seq.{drop-length, take-append_seam}
 use Rattle.std.proofs.lemmas.List.{append-nil, drop-drop, length_push, reverse-append, take-append-drop, take_at, take_rest}
 use Rattle.std.proofs.lemmas.List.Folds.{find-append}
 use Rattle.std.specs.List.{find, slice_get}

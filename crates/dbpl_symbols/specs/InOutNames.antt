@@ -1,5 +1,5 @@
 -- What the module InOut shows: procedures that read and print, and the variable Done.
-use Rattle.std.specs.Prelude.{ℕ, Bool, true, false, List, [], ◌∷◌, ◌++◌, Option, Some, None, codes}
+use Rattle.std.specs.Prelude.{ℕ, Bool, true, false, List, [], ◌∷◌, ◌++◌, Some, None, codes}
 use Rattle.dbpl_symbols.specs.Interfaces.{exports_of}
 use Rattle.dbpl_symbols.specs.StandardNames.{own}
 use Rattle.dbpl_symbols.specs.declared.decl.Decl.TheVariants as decls

@@ -2,6 +2,7 @@
 ghost use Rattle.std.specs.Prelude.{◌≡◌, IsSome};
 
 use super::*;
+use std::alloc::{AllocError, Global};
 use std::fs;
 use std::test::Fail;
 
@@ -132,5 +133,37 @@ fn shelf_of_files(rt: HostRuntime) -> Result<(), Fail> {
         assert_eq!(rt; shelf.fetch(rt.alloc(), name, limit, &mut into), want);
     }
     assert_eq!(rt; into.as_slice(), b"text".as_slice());
+    Ok(())
+}
+
+/// The path behind a thousand steps that stay in the folder.
+fn long_path(alloc: Global, path: &str) -> Result<String, AllocError> {
+    let mut long = String::new(alloc);
+    for _step in 0..1000 {
+        long.push_str("./")?;
+    }
+    long.push_str(path)?;
+    Ok(long)
+}
+
+#[test]
+fn long_names_and_a_long_text(rt: HostRuntime) -> Result<(), Fail> {
+    let alloc = rt.alloc();
+    fs::create_dir(&rt, "long")?;
+    let text = vec![in alloc; b't'; 6000]?;
+    fs::write(&rt, "long/a.mod", text.as_slice())?;
+    let file = long_path(alloc, "long/a.mod")?;
+    let mut shelf = FileShelf::new(rt);
+    let mut into = Vec::new(alloc);
+    assert_eq!(rt;
+        shelf.fetch(alloc, file.as_str(), 6000, &mut into),
+        Ok(true)
+    );
+    assert!(rt; into.as_slice() == text.as_slice());
+    let store = long_path(alloc, "long/s")?;
+    let mut world = RealWorld::new(rt, rt.stdin(), rt.stdout(), rt.stderr());
+    assert!(rt; world.mount(alloc, store.as_str()).is_ok());
+    let trip = Ok((5, 5, [0, 0, b'x', b'y', b'z', 9]));
+    assert_eq!(rt; round_trip(&mut world, Part::Log), trip);
     Ok(())
 }

@@ -1,4 +1,4 @@
-use Rattle.std.proofs.Common.{◌≡◌, ◌∙◌, [], ◌∷◌, ap, sym, take}
+use Rattle.std.proofs.Common.{◌∙◌, [], ◌∷◌, ap, sym, take}
 use Rattle.std.proofs.lemmas.List.{take_at}
 use Rattle.dbpl_symbols.proofs.PlaceLaws.{added_noted, undone_noted}
 use Rattle.dbpl_symbols.specs.declared.held.Held.{Held}

@@ -1,4 +1,4 @@
-use Rattle.std.proofs.Common.{◌≡◌, List, flat_map, reverse, subst, ℕ}
+use Rattle.std.proofs.Common.{◌≡◌, flat_map, reverse, subst}
 use Rattle.dbpl_symbols.proofs.HeldLaws.{rises}
 use Rattle.dbpl_symbols.proofs.ScopeLaws.{found-innermost, levels-entered, levels-joined}
 use Rattle.dbpl_symbols.specs.Places.{pairs_of}
