@@ -5,7 +5,7 @@ use dbpl_value::DbType;
 /// What denotes a variable or a part of one, with indexes of the type `E`: its root and then the steps from there, in the
 /// order of the text.
 ///
-/// It is made of a designator that names no routine. An index list `[i, j]` is two steps, as `[i][j]` is.
+/// It is made of a designator that names no routine. Each pair of brackets is a step, `[i][j]` two.
 #[derive(Drop)]
 pub struct CoreDesignatorOf<E> {
     /// Of its first token.
