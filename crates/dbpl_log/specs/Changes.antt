@@ -13,6 +13,10 @@ pub record LeavesLog (P : List ℕ → Type 0) (old s : State) : Type 0 where
   pub pages : (left : List ℕ) → IsImage s.disk.pages left → IsImage old.disk.pages left
   pub others : s ≡ record old { disk = s.disk }
 
+-- A stop leaves of the mounted store what it could leave at old. Of the world nothing but its disk has changed.
+abbrev pub KeepsLog : State → State → Type 0
+KeepsLog old s = LeavesLog (IsImage old.disk.log) old s
+
 -- Since old nothing has changed but the log of the mounted store: its pages were neither written nor synced.
 abbrev pub ChangesLog : State → State → Type 0
 ChangesLog old s = s ≡ record old { disk = record old.disk { log = s.disk.log } }

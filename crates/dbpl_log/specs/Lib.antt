@@ -3,3 +3,4 @@ pub mod Changes
 pub mod Fronts
 pub mod Records
 pub mod Rest
+pub mod Worlds

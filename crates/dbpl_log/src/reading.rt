@@ -14,8 +14,10 @@ const HEAD: usize = 16;
 /// ends before the next gate.
 pub(crate) fn read_records(alloc: Global, log: &[u8]) -> Result<Option<Opened>, Memory>
     requires limit { length log.now < 2 ^ 63 }
-    ensures records { IfOk result (λ found. records_from (length log.now) (drop 16 log.now) ≡ option_map records_in found) }
-    ensures gate { IfOk result (λ found. MatchOption found ⊤ (λ opened. opened.log.gate ≡ next_gate (records_in opened))) }
+    ensures records { IfOk result (λ found.
+        records_from (length log.now) (drop 16 log.now) ≡ option_map records_in found) }
+    ensures gate { IfOk result (λ found.
+        MatchOption found ⊤ (λ opened. opened.log.gate ≡ next_gate (records_in opened))) }
 {
     if log.len() < HEAD {
         return Ok(None);

@@ -1,9 +1,10 @@
 -- The exits of a create.
-use Rattle.std.proofs.Common.{Err, [], ◌∷◌, ap}
+use Rattle.std.proofs.Common.{Err, [], ◌∷◌, refl, ap}
 use Rattle.std.proofs.lemmas.Result.{err_from_is_err_and}
 use Rattle.dbpl_log.specs.declared.create_err.CreateErr.{CreateErr}
 use Rattle.dbpl_log.proofs.Heads.{text_literal}
 use Rattle.dbpl_log.proofs.Creating.{in_error, part2, begun2, begun3, begun4, begun5, begun_only, begun_bytes, head0, foreign0, free0, exists_or_fault, foreign_or_fault, not_both, begun1}
+use Rattle.dbpl_log.proofs.Openings.{both_synced}
 use Rattle.dbpl_log.proofs.OnlyLog.{only_writing, pages_synced, writes_same, writes_synced, writes_then}
 use Rattle.dbpl_log.proofs.creation.create.Goals as goal
 
@@ -120,3 +121,6 @@ returns-in_err-write_and_sync-2-clause-kept g c told none = absurd (none (free0 
 
 pub returns-clause-kept : goal.returns-clause-kept
 returns-clause-kept g c told none = absurd (none (free0 _ _ _ (g.met.W.World.reads_an_image c.args.world.now told) (c.in_ok-sync_both.ensures.ok told) (c.check_free.ensures.unchanged told) (c.in_ok-check_free.ensures.free told)))
+
+pub returns-in_err-check_free-clause-settled : goal.returns-in_err-check_free-clause-settled
+returns-in_err-check_free-clause-settled g c told refused = both_synced _ _ (c.in_ok-sync_both.ensures.ok told) _ _ (c.check_free.ensures.unchanged told) refl

@@ -1,5 +1,5 @@
 -- The exits of an opening.
-use Rattle.std.proofs.Common.{◌∙◌}
+use Rattle.std.proofs.Common.{refl, ◌∙◌}
 use Rattle.dbpl_log.specs.Rest.{records_in}
 use Rattle.dbpl_log.proofs.Openings.{both_synced, no_head, some_head, some_read, none_read, rests, stands_for}
 use Rattle.dbpl_log.proofs.opening.open.Goals as goal
@@ -45,3 +45,15 @@ returns-clause-not_store_where g c told not = absurd (not (some_head _ _ (c.in_o
 
 pub returns-clause-damaged : goal.returns-clause-damaged
 returns-clause-damaged g c told e = (some_head _ _ (c.in_ok-sync_both.ensures.ok told) c.in_ok-has_head.field-0 c.if-not-branch.false (c.in_ok-has_head.ensures.ok told), none_read _ _ (c.in_ok-sync_both.ensures.ok told) _ (c.has_head.ensures.unchanged told) c.in_ok-has_head.field-0 c.if-not-branch.false (c.in_ok-has_head.ensures.ok told) c.deref.result.now (c.deref.ensures.value ∙ c.in_ok-log.ensures.bytes told) c.in_ok-opened.field-0 c.in-None.is c.in_ok-opened.ensures.records)
+
+pub returns-then-not-branch-clause-settled : goal.returns-then-not-branch-clause-settled
+returns-then-not-branch-clause-settled g c told refused = both_synced _ _ (c.in_ok-sync_both.ensures.ok told) _ _ (c.has_head.ensures.unchanged told) refl
+
+pub returns-in_err-log-clause-settled : goal.returns-in_err-log-clause-settled
+returns-in_err-log-clause-settled g c told refused = both_synced _ _ (c.in_ok-sync_both.ensures.ok told) _ _ (c.has_head.ensures.unchanged told) (c.read_log.ensures.unchanged told)
+
+pub returns-in_err-opened-clause-settled : goal.returns-in_err-opened-clause-settled
+returns-in_err-opened-clause-settled g c told refused = both_synced _ _ (c.in_ok-sync_both.ensures.ok told) _ _ (c.has_head.ensures.unchanged told) (c.read_log.ensures.unchanged told)
+
+pub returns-clause-settled : goal.returns-clause-settled
+returns-clause-settled g c told refused = both_synced _ _ (c.in_ok-sync_both.ensures.ok told) _ _ (c.has_head.ensures.unchanged told) (c.read_log.ensures.unchanged told)
