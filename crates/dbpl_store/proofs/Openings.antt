@@ -5,6 +5,7 @@ use Rattle.dbpl_log.specs.Changes.{LeavesLog}
 use Rattle.dbpl_log.specs.Records.{HasHead, records_of}
 use Rattle.dbpl_log.specs.declared.open_err.OpenErr.{OpenErr}
 use Rattle.dbpl_log.specs.declared.open_err.OpenErr.TheVariants as log_errors
+use Rattle.dbpl_log.specs.declared.opened.Opened.{Opened}
 use Rattle.dbpl_codec.proofs.ByteLaws.{some_is}
 use Rattle.dbpl_store.proofs.Standing.{stands-for}
 use Rattle.dbpl_store.specs.Errors.{of_log}
@@ -116,3 +117,26 @@ log-damaged log pages log_errors.Memory page law same = absurd cc
 log-damaged log pages log_errors.Damaged page law same =
     let law2 = law refl in
     (cc, law2.0, stands-none log pages None law2.1 refl)
+
+-- no refusal is told by these two
+no-fault :
+    (f : StoreErr) → f ≡ errors.Disk →
+    (failed f ≡ failed errors.NotStore) ⊎ ((page : ℕ) × (failed f ≡ failed (errors.Damaged page))) → ⊥
+no-fault f is (inl same) = cc
+no-fault f is (inr (page, same)) = cc
+
+no-want :
+    (f : StoreErr) → f ≡ errors.Memory →
+    (failed f ≡ failed errors.NotStore) ⊎ ((page : ℕ) × (failed f ≡ failed (errors.Damaged page))) → ⊥
+no-want f is (inl same) = cc
+no-want f is (inr (page, same)) = cc
+
+-- a refusal of the store is one of its log
+pub log-refused :
+    (e : OpenErr) (f : StoreErr) (opened : Result Opened OpenErr) → opened ≡ Err e → f ≡ of_log e →
+    (failed f ≡ failed errors.NotStore) ⊎ ((page : ℕ) × (failed f ≡ failed (errors.Damaged page))) →
+    (opened ≡ Err log_errors.NotStore) ⊎ (opened ≡ Err log_errors.Damaged)
+log-refused log_errors.NotStore f opened is from refused = inl is
+log-refused log_errors.Damaged f opened is from refused = inr is
+log-refused log_errors.Disk f opened is from refused = absurd (no-fault f from refused)
+log-refused log_errors.Memory f opened is from refused = absurd (no-want f from refused)

@@ -65,7 +65,8 @@ impl Store {
     pub fn whole(&self) -> &Value
         requires bound { IsSome (bound_in self.now) }
         ensures whole { option_map (λ bound. bound.rel) (bound_in self.now) ≡ Some result.now }
-        ensures of { IfSome (bound_in self.now) (λ bound. IsTrue (is_of bound.kind result.now) × IsTrue (are_small bound.kind result.now)) }
+        ensures of { IfSome (bound_in self.now) (λ bound.
+            IsTrue (is_of bound.kind result.now) × IsTrue (are_small bound.kind result.now)) }
     {
         match self.bound {
             Some(at) => &self.database.as_slice()[at].rel,
@@ -77,7 +78,8 @@ impl Store {
     pub fn replace_all(&mut self, alloc: Global, all: Value) -> Result<(), Memory>
         requires running { is_running self.old ≡ true }
         requires bound { IsSome (bound_in self.old) }
-        requires fits { IfSome (bound_in self.old) (λ bound. IsTrue (is_of bound.kind all) × IsTrue (are_small bound.kind all)) }
+        requires fits { IfSome (bound_in self.old) (λ bound.
+            IsTrue (is_of bound.kind all) × IsTrue (are_small bound.kind all)) }
         ensures ok { OnOk result (database_in self.new ≡ with_bound_relation all self.old) }
         ensures kept { OnErr result (database_in self.new ≡ database_in self.old) }
         ensures committed { committed_of self.new ≡ committed_of self.old }

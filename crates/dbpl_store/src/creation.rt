@@ -3,13 +3,13 @@ ghost use Rattle.std.specs.Prelude.{◌≡◌, ◌⊎◌, ℕ, Err, IsSome, IsTr
 ghost use Rattle.dbpl_log.specs.Beginning.{IsForeign, IsFree, begun};
 ghost use Rattle.dbpl_log.specs.Changes.{WritesLog};
 ghost use Rattle.dbpl_log.specs.Records.{HasHead};
+ghost use Rattle.dbpl_log.specs.Worlds.{DiskFailed, Meanwhile, disk_of, log_of, pages_of, synced_of};
 ghost use Rattle.dbpl_log.specs.declared.create_err.CreateErr.TheVariants as errors;
 ghost use Rattle.dbpl_store.specs.Beginning.{LeavesBegun, MayBecomeEmpty, StandsEmpty};
 ghost use Rattle.dbpl_store.specs.Stands.{LeavesOld};
-ghost use Rattle.dbpl_world.specs.Counts.{OnlyDiskFaults, Rose};
+ghost use Rattle.dbpl_world.specs.Counts.{OnlyDiskFaults};
 ghost use Rattle.dbpl_world.specs.History.{now};
 ghost use Rattle.dbpl_world.specs.Images.{IsImage, settled};
-ghost use Rattle.dbpl_world.specs.Moments.{EachMoment};
 
 use dbpl_log::CreateErr;
 use dbpl_world::World;
@@ -17,27 +17,36 @@ use dbpl_world::World;
 /// Makes an empty store of the mounted one. It takes no memory.
 pub fn create<W: World>(world: &mut W) -> Result<(), CreateErr>
     requires mounted { IsSome (W.mounted world.old) }
-    ensures moments { IsTrue W.tells → ((log pages : List ℕ) → IsImage (now (W.history world.old)).disk.log log → IsImage (now (W.history world.old)).disk.pages pages → MayBecomeEmpty log pages) →
-        EachMoment (LeavesBegun (now (W.history world.old))) (W.history world.old) (W.history world.new) }
+    ensures moments { IsTrue W.tells →
+        ((log pages : List ℕ) → IsImage (disk_of W.World world.old).log log →
+        IsImage (disk_of W.World world.old).pages pages → MayBecomeEmpty log pages) →
+        Meanwhile W.World LeavesBegun world.old world.new }
     ensures made { IsTrue W.tells → OnOk result (StandsEmpty (now (W.history world.new))) }
-    ensures bytes { IsTrue W.tells → OnOk result ((now (W.history world.new)).disk.log.now ≡ begun (now (W.history world.old)).disk.log.now) }
-    ensures pages { IsTrue W.tells → OnOk result ((now (W.history world.new)).disk.pages ≡ settled (now (W.history world.old)).disk.pages.now) }
-    ensures writes { IsTrue W.tells → EachMoment (WritesLog (now (W.history world.old))) (W.history world.old) (W.history world.new) }
+    ensures bytes { IsTrue W.tells → OnOk result (log_of W.World world.new ≡ begun (log_of W.World world.old)) }
+    ensures pages { IsTrue W.tells →
+        OnOk result ((disk_of W.World world.new).pages ≡ settled (pages_of W.World world.old)) }
+    ensures writes { IsTrue W.tells → Meanwhile W.World WritesLog world.old world.new }
 
     // Each refusal comes exactly where it says, but for faults, and leaves all as it was. So does any answer over what isn't
     // free.
-    ensures free { IsTrue W.tells → OnOk result (IsFree (now (W.history world.old)).disk) }
-    ensures exists { IsTrue W.tells → result ≡ Err errors.Exists → HasHead (now (W.history world.old)).disk.log.now }
-    ensures exists_where { IsTrue W.tells → HasHead (now (W.history world.old)).disk.log.now → (result ≡ Err errors.Exists) ⊎ (result ≡ Err errors.Disk) }
-    ensures foreign { IsTrue W.tells → result ≡ Err errors.Foreign → IsForeign (now (W.history world.old)).disk }
-    ensures foreign_where { IsTrue W.tells → IsForeign (now (W.history world.old)).disk → (result ≡ Err errors.Foreign) ⊎ (result ≡ Err errors.Disk) }
+    ensures free { IsTrue W.tells → OnOk result (IsFree (disk_of W.World world.old)) }
+    ensures exists { IsTrue W.tells → result ≡ Err errors.Exists → HasHead (log_of W.World world.old) }
+    ensures exists_where { IsTrue W.tells → HasHead (log_of W.World world.old) →
+        (result ≡ Err errors.Exists) ⊎ (result ≡ Err errors.Disk) }
+    ensures foreign { IsTrue W.tells → result ≡ Err errors.Foreign → IsForeign (disk_of W.World world.old) }
+    ensures foreign_where { IsTrue W.tells → IsForeign (disk_of W.World world.old) →
+        (result ≡ Err errors.Foreign) ⊎ (result ≡ Err errors.Disk) }
     ensures refused { IsTrue W.tells → (result ≡ Err errors.Exists) ⊎ (result ≡ Err errors.Foreign) →
-        EachMoment (LeavesOld (now (W.history world.old))) (W.history world.old) (W.history world.new) }
-    ensures kept { IsTrue W.tells → (IsFree (now (W.history world.old)).disk → ⊥) → EachMoment (LeavesOld (now (W.history world.old))) (W.history world.old) (W.history world.new) }
+        Meanwhile W.World LeavesOld world.old world.new }
+    // Before it is refused both parts are synced.
+    ensures settled { IsTrue W.tells → (result ≡ Err errors.Exists) ⊎ (result ≡ Err errors.Foreign) →
+        disk_of W.World world.new ≡ synced_of W.World world.old }
+    ensures kept { IsTrue W.tells → (IsFree (disk_of W.World world.old) → ⊥) →
+        Meanwhile W.World LeavesOld world.old world.new }
 
     ensures same { W.mounted world.new ≡ W.mounted world.old }
     ensures counts { OnlyDiskFaults (W.counts world.old) (W.counts world.new) }
-    ensures cause { result ≡ Err errors.Disk → Rose (W.counts world.old).disk_faults (W.counts world.new).disk_faults }
+    ensures cause { result ≡ Err errors.Disk → DiskFailed W.World world.old world.new }
 {
     dbpl_log::create(world)
 }

@@ -1,7 +1,7 @@
 use Rattle.std.proofs.Common.{Err, ap, sym, ◌∙◌}
 use Rattle.dbpl_log.proofs.RecordLaws.{records_head}
 use Rattle.dbpl_log.specs.Rest.{records_in}
-use Rattle.dbpl_store.proofs.Openings.{err_is, log-damaged, opened-anyway, opened-damaged, opened-damaged_where, opened-read, opened-stood, opening-moments}
+use Rattle.dbpl_store.proofs.Openings.{err_is, log-damaged, log-refused, opened-anyway, opened-damaged, opened-damaged_where, opened-read, opened-stood, opening-moments}
 use Rattle.dbpl_world.specs.History.{now}
 use Rattle.dbpl_store.proofs.opening.open.Goals as goal
 
@@ -48,3 +48,10 @@ returns-in-Err-clause-damaged g c = λ told page e.
     let s = now (g.W.World.history c.args.world.now) in
     log-damaged s.disk.log.now s.disk.pages.now c.in-Err.err page
     (λ f. c.open.ensures.damaged told (c.in-Err.is ∙ ap (λ e. Err e) f)) (sym c.store_err.ensures ∙ err_is _ _ e)
+
+pub returns-in-Ok-clause-settled : goal.returns-in-Ok-clause-settled
+returns-in-Ok-clause-settled g c = λ told refused. c.in-Ok.ensures.synced told
+
+pub returns-in-Err-clause-settled : goal.returns-in-Err-clause-settled
+returns-in-Err-clause-settled g c = λ told refused.
+    c.open.ensures.settled told (log-refused c.in-Err.err _ c.open.result c.in-Err.is c.store_err.ensures refused)
