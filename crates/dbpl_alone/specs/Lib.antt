@@ -1,4 +1,5 @@
 pub mod Answers
+pub mod Command
 pub mod Headline
 pub mod Meaning
 pub mod Modules

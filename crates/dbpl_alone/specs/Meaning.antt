@@ -17,6 +17,7 @@ statement_meaning statement = turn (prints_bytes (printed_by statement))
 abbrev pub module_doing : Program → Doing (Unit {0})
 module_doing program = turn (block (map statement_meaning program.statements))
 
--- THE meaning: what a module comes to within so many turns. It has no database, and takes no input.
-unfoldable pub module_meaning : Program → ℕ → Outcome
-module_meaning program turns = outcome_of (module_doing program (record { left = turns; database = []; input = []; events = [] }))
+-- THE meaning: what a module comes to with this input within so many turns. It has no database. So far no statement reads.
+unfoldable pub module_meaning : Program → List ℕ → ℕ → Outcome
+module_meaning program input turns =
+    outcome_of (module_doing program (record { left = turns; database = []; input = input; events = [] }))

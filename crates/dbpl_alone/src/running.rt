@@ -1,7 +1,10 @@
 // A run of one file, without a store.
 ghost use Rattle.std.specs.Prelude.{◌≡◌, ◌≤◌, IsTrue};
 ghost use Rattle.dbpl_alone.specs.Answers.{IsSilent};
-ghost use Rattle.dbpl_alone.specs.RunsAlone.{RunsAlone};
+ghost use Rattle.dbpl_alone.specs.Command.{runs_alone};
+ghost use Rattle.dbpl_promise.specs.Promises.{Answered};
+ghost use Rattle.dbpl_promise.specs.Running.{running};
+ghost use Rattle.dbpl_promise.specs.Work.{work_of};
 ghost use Rattle.dbpl_world.specs.Counts.{OnlySayFaults};
 ghost use Rattle.dbpl_world.specs.History.{now};
 
@@ -19,16 +22,7 @@ pub fn run_alone<W: World, S: Shelf>(
     shelf: &mut S,
     world: &mut W,
 ) -> Status
-    ensures runs { RunsAlone file.now (record {
-      files = S.files shelf.old;
-      shelf_faults_before = S.shelf_faults shelf.old;
-      shelf_faults_after = S.shelf_faults shelf.new;
-      tells = W.tells;
-      before = W.history world.old;
-      after = W.history world.new;
-      counts_before = W.counts world.old;
-      counts_after = W.counts world.new;
-    }) result }
+    ensures runs { Answered (running (runs_alone file.now)) (work_of S.Shelf W.World shelf.old shelf.new world.old world.new) result }
     ensures quiet { IsSilent result → world.new ≡ world.old }
     ensures unnoted { IsTrue W.tells → (now (W.history world.new)).noted ≡ (now (W.history world.old)).noted }
     ensures same { W.mounted world.new ≡ W.mounted world.old }

@@ -1,3 +1,4 @@
+pub mod Fetching
 pub mod Sources
 pub mod Texts
 pub mod Work

@@ -1,7 +1,9 @@
-//! The text of a source file.
-ghost use Rattle.std.specs.Prelude.{◌≡◌, ◌≤◌, length, Some, IfErr, IfOk, IfSome};
-ghost use Rattle.dbpl_sources.specs.Sources.{IsUnread};
-ghost use Rattle.dbpl_world.specs.Files.{file_of};
+//! The texts of source files.
+ghost use Rattle.std.specs.Prelude.{◌≡◌, ◌≤◌, length, map, IfErr, IfOk};
+ghost use Rattle.std.specs.List.{All};
+ghost use Rattle.dbpl_promise.specs.Stages.{Stops};
+ghost use Rattle.dbpl_promise.specs.Work.{HasFetched, Work};
+ghost use Rattle.dbpl_sources.specs.Fetching.{all_fetched, fetched};
 
 use dbpl_base::limits::SOURCE_BYTES;
 use dbpl_base::{Status, name_of};
@@ -10,9 +12,11 @@ use std::alloc::Global;
 
 /// The text of that file, or the answer that it has none, of `SOURCE_BYTES` bytes at most.
 pub fn source<S: Shelf>(alloc: Global, shelf: &mut S, file: &str) -> Result<Vec<u8>, Status>
-    ensures found { IfOk result (λ text. IfSome (S.files shelf.old) (λ files. file_of files file.now ≡ Some text.items)) }
+    ensures found { (work : Work) → HasFetched work (S.files shelf.old) (S.shelf_faults shelf.old) (S.shelf_faults shelf.new) →
+        IfOk result (λ text. (fetched file.now).passes work text.items) }
     ensures within { IfOk result (λ text. length text.items ≤ SOURCE_BYTES) }
-    ensures err { IfErr result (λ status. IsUnread (S.files shelf.old) file.now (S.shelf_faults shelf.old) (S.shelf_faults shelf.new) status) }
+    ensures err { (work : Work) → HasFetched work (S.files shelf.old) (S.shelf_faults shelf.old) (S.shelf_faults shelf.new) →
+        IfErr result (Stops (fetched file.now) work) }
     ensures files { S.files shelf.new ≡ S.files shelf.old }
     ensures faults { S.shelf_faults shelf.old ≤ S.shelf_faults shelf.new }
 {
@@ -24,4 +28,22 @@ pub fn source<S: Shelf>(alloc: Global, shelf: &mut S, file: &str) -> Result<Vec<
         Err(ShelfErr::Failed) => Err(Status::SourceFault),
         Err(ShelfErr::Memory) => Err(Status::Memory),
     }
+}
+
+/// The texts of these files, fetched in their order, or the answer of the first that can't be read.
+pub fn sources<S: Shelf>(alloc: Global, shelf: &mut S, files: &[&str]) -> Result<Vec<Vec<u8>>, Status>
+    ensures found { (work : Work) → HasFetched work (S.files shelf.old) (S.shelf_faults shelf.old) (S.shelf_faults shelf.new) →
+        IfOk result (λ texts. (all_fetched (map (λ file. file.now) files.now)).passes work (map (λ text. text.items) texts.items)) }
+    ensures within { IfOk result (λ texts. All (λ text. length text.items ≤ SOURCE_BYTES) texts.items) }
+    ensures err { (work : Work) → HasFetched work (S.files shelf.old) (S.shelf_faults shelf.old) (S.shelf_faults shelf.new) →
+        IfErr result (Stops (all_fetched (map (λ file. file.now) files.now)) work) }
+    ensures files { S.files shelf.new ≡ S.files shelf.old }
+    ensures faults { S.shelf_faults shelf.old ≤ S.shelf_faults shelf.new }
+{
+    let mut texts = Vec::new(alloc);
+    for file in files {
+        let text = source(alloc, shelf, file)?;
+        texts.push(text)?;
+    }
+    Ok(texts)
 }

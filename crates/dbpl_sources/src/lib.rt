@@ -3,4 +3,4 @@
 
 mod fetching;
 
-pub use fetching::source;
+pub use fetching::{source, sources};

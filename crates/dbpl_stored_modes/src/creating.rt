@@ -1,6 +1,9 @@
 //! The command that makes an empty store.
 ghost use Rattle.std.specs.Prelude.{◌≡◌, ℕ, IsTrue, Option};
-ghost use Rattle.dbpl_stored_modes.specs.Creating.{Creates, answer_of};
+ghost use Rattle.dbpl_promise.specs.Promises.{Answered};
+ghost use Rattle.dbpl_promise.specs.Work.{work_in};
+ghost use Rattle.dbpl_stored_modes.specs.CreateCommand.{creates};
+ghost use Rattle.dbpl_stored_modes.specs.Creating.{answer_of};
 ghost use Rattle.dbpl_world.specs.Counts.{OnlyDiskFaults};
 ghost use Rattle.dbpl_world.specs.Files.{Files};
 ghost use Rattle.dbpl_world.specs.History.{now};
@@ -12,16 +15,8 @@ use std::alloc::Global;
 
 /// Makes an empty store of this name.
 pub fn create_store<W: World>(alloc: Global, store: &str, world: &mut W) -> Status
-    ensures created { (files : Option Files) (faults : ℕ) → Creates store.now (record {
-      files = files;
-      shelf_faults_before = faults;
-      shelf_faults_after = faults;
-      tells = W.tells;
-      before = W.history world.old;
-      after = W.history world.new;
-      counts_before = W.counts world.old;
-      counts_after = W.counts world.new;
-    }) result }
+    ensures created { (files : Option Files) (faults_before faults_after : ℕ) →
+        Answered (creates store.now) (work_in W.World files faults_before faults_after world.old world.new) result }
     ensures unnoted { IsTrue W.tells → (now (W.history world.new)).noted ≡ (now (W.history world.old)).noted }
     ensures counts { OnlyDiskFaults (W.counts world.old) (W.counts world.new) }
 {

@@ -2,8 +2,12 @@
 ghost use Rattle.std.specs.Prelude.{◌≡◌, ◌≤◌, length, IfErr, IfOk, IsTrue};
 ghost use Rattle.dbpl_stored_program.specs.Programs.{is_small_program};
 ghost use Rattle.dbpl_stored_form.specs.Texts.{IsStored};
-ghost use Rattle.dbpl_stored_modes.specs.Reading.{IsNoProgram, AreRefused, ReadsProgram};
-ghost use Rattle.dbpl_stored_modes.specs.Runs.{Runs};
+ghost use Rattle.dbpl_stored_modes.specs.Reading.{AreRefused};
+ghost use Rattle.dbpl_promise.specs.Promises.{Answered};
+ghost use Rattle.dbpl_promise.specs.Running.{running};
+ghost use Rattle.dbpl_promise.specs.Stages.{Stops};
+ghost use Rattle.dbpl_promise.specs.Work.{HasFetched, Work, work_of};
+ghost use Rattle.dbpl_stored_modes.specs.RunCommand.{reads_program, runs_over};
 ghost use Rattle.dbpl_stored_run.specs.Leaving.{OnlyRunFaults};
 ghost use Rattle.dbpl_world.specs.History.{now};
 
@@ -26,16 +30,7 @@ pub fn run_files<W: World, S: Shelf>(
     shelf: &mut S,
     world: &mut W,
 ) -> Status
-    ensures runs { Runs store.now schema.now program.now (record {
-      files = S.files shelf.old;
-      shelf_faults_before = S.shelf_faults shelf.old;
-      shelf_faults_after = S.shelf_faults shelf.new;
-      tells = W.tells;
-      before = W.history world.old;
-      after = W.history world.new;
-      counts_before = W.counts world.old;
-      counts_after = W.counts world.new;
-    }) result }
+    ensures runs { Answered (running (runs_over store.now schema.now program.now)) (work_of S.Shelf W.World shelf.old shelf.new world.old world.new) result }
     ensures unnoted { IsTrue W.tells → (now (W.history world.new)).noted ≡ (now (W.history world.old)).noted }
     ensures counts { OnlyRunFaults (W.counts world.old) (W.counts world.new) }
     ensures files { S.files shelf.new ≡ S.files shelf.old }
@@ -54,9 +49,11 @@ fn program_in<S: Shelf>(
     program: &str,
     shelf: &mut S,
 ) -> Result<StoredProgram, Status>
-    ensures found { IfOk result (λ stored. ReadsProgram (S.files shelf.old) schema.now program.now stored) }
+    ensures found { (work : Work) → HasFetched work (S.files shelf.old) (S.shelf_faults shelf.old) (S.shelf_faults shelf.new) →
+        IfOk result (λ stored. (reads_program schema.now program.now).passes work stored) }
     ensures small { IfOk result (λ stored. IsTrue (is_small_program stored)) }
-    ensures err { IfErr result (λ status. IsNoProgram (S.files shelf.old) schema.now program.now (S.shelf_faults shelf.old) (S.shelf_faults shelf.new) status) }
+    ensures err { (work : Work) → HasFetched work (S.files shelf.old) (S.shelf_faults shelf.old) (S.shelf_faults shelf.new) →
+        IfErr result (Stops (reads_program schema.now program.now) work) }
     ensures files { S.files shelf.new ≡ S.files shelf.old }
     ensures faults { S.shelf_faults shelf.old ≤ S.shelf_faults shelf.new }
 {

@@ -1,7 +1,11 @@
 //! A run of a program over the store of a name.
 ghost use Rattle.std.specs.Prelude.{◌≡◌, ℕ, IsTrue, Option};
 ghost use Rattle.dbpl_stored_program.specs.Programs.{is_small_program};
-ghost use Rattle.dbpl_stored_modes.specs.StoredRuns.{TellsOfRun, RunsStored};
+ghost use Rattle.dbpl_promise.specs.Promises.{Answered};
+ghost use Rattle.dbpl_promise.specs.Running.{running};
+ghost use Rattle.dbpl_promise.specs.Work.{work_in};
+ghost use Rattle.dbpl_stored_modes.specs.RunCommand.{runs_program};
+ghost use Rattle.dbpl_stored_modes.specs.StoredRuns.{TellsOfRun};
 ghost use Rattle.dbpl_stored_run.specs.Leaving.{OnlyRunFaults};
 ghost use Rattle.dbpl_world.specs.Files.{Files};
 ghost use Rattle.dbpl_world.specs.History.{now};
@@ -21,16 +25,8 @@ pub fn run_over<W: World>(
     world: &mut W,
 ) -> Status
     requires small { IsTrue (is_small_program program.now) }
-    ensures runs { (files : Option Files) (faults_before faults_after : ℕ) → RunsStored store.now program.now (record {
-      files = files;
-      shelf_faults_before = faults_before;
-      shelf_faults_after = faults_after;
-      tells = W.tells;
-      before = W.history world.old;
-      after = W.history world.new;
-      counts_before = W.counts world.old;
-      counts_after = W.counts world.new;
-    }) result }
+    ensures runs { (files : Option Files) (faults_before faults_after : ℕ) →
+        Answered (running (runs_program store.now program.now)) (work_in W.World files faults_before faults_after world.old world.new) result }
     ensures unnoted { IsTrue W.tells → (now (W.history world.new)).noted ≡ (now (W.history world.old)).noted }
     ensures counts { OnlyRunFaults (W.counts world.old) (W.counts world.new) }
 {

@@ -5,6 +5,7 @@ use Rattle.std.specs.Prelude.{ℕ, zero, suc, ◌==◌, if◌then◌else◌, Lis
 use Rattle.std.specs.List.{before_first}
 use Rattle.std.specs.Option.{option_map_or}
 use Rattle.dbpl_core.specs.Events.{Commit, Event, Out}
+pub use Rattle.dbpl_core.specs.Outcomes.{Ended, Going, Outcome, Standing, Trapped}
 use Rattle.dbpl_stored_program.specs.Insertions.{right_side, with_set}
 use Rattle.dbpl_stored_program.specs.declared.action.Action.{Action}
 use Rattle.dbpl_stored_program.specs.declared.action.Action.TheVariants.{Transact, WriteLn, WriteString}
@@ -17,12 +18,6 @@ use Rattle.dbpl_value.specs.declared.bound.Bound.{Bound}
 use Rattle.dbpl_value.specs.declared.field.Field.{Field}
 use Rattle.dbpl_value.specs.declared.value.Value.{Value}
 use Rattle.dbpl_value.specs.declared.value.Value.TheVariants as value
-
--- How a run stands. It is going on where its turns were used up.
-pub data Standing : Type 0 where
-  Going : Standing
-  Ended : Standing
-  Trapped : Trap → Standing
 
 -- What a run has while it goes: the turns that may still begin, the database, the input that is left, and the events so far.
 pub record State : Type 0 where
@@ -130,14 +125,9 @@ action_meaning program (WriteString text) = turn (prints_bytes (before_zero text
 abbrev pub body_meaning : StoredProgram → Doing (Unit {0})
 body_meaning program = turn (block (map (action_meaning program) program.body))
 
--- What a run comes to: its events, and how it stands.
-pub record Outcome : Type 0 where
-  pub events : List Event
-  pub stands : Standing
-
 abbrev pub outcome_of : Ran (Unit {0}) → Outcome
-outcome_of (Done value state) = record { events = state.events; stands = Ended }
-outcome_of (Stops standing state) = record { events = state.events; stands = standing }
+outcome_of (Done value state) = record { events = state.events; stands = Ended; left = state.input }
+outcome_of (Stops standing state) = record { events = state.events; stands = standing; left = state.input }
 
 -- THE meaning: what a program comes to over this database, with this input, within so many turns. So far no statement reads.
 unfoldable pub meaning : StoredProgram → List Bound → List ℕ → ℕ → Outcome

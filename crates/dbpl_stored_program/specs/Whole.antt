@@ -2,7 +2,7 @@
 use Rattle.std.specs.Prelude.{ℕ, suc, List, [], ◌∷◌, ◌++◌, map, length, Result, Ok, Err}
 use Rattle.dbpl_core.specs.Events.{Commit, Event, Out}
 use Rattle.dbpl_stored_program.specs.Insertions.{inserted_all}
-use Rattle.dbpl_stored_program.specs.Meaning.{Ended, Outcome, Trapped, before_zero, meaning, relation_named, with_named}
+use Rattle.dbpl_stored_program.specs.Meaning.{Ended, Outcome, Standing, Trapped, before_zero, meaning, relation_named, with_named}
 use Rattle.dbpl_stored_program.specs.declared.action.Action.{Action}
 use Rattle.dbpl_stored_program.specs.declared.action.Action.TheVariants.{Transact, WriteLn, WriteString}
 use Rattle.dbpl_stored_program.specs.declared.stored_program.StoredProgram.{StoredProgram}
@@ -21,23 +21,28 @@ whole_run program database input = meaning program database input (turns_of prog
 abbrev pub events_of : StoredProgram → List Bound → List ℕ → List Event
 events_of program database input = (whole_run program database input).events
 
--- ---- the same, statement by statement
+-- ---- the same, statement by statement; no statement reads, so the input is left as it was
 
--- an outcome with these events before it
-abbrev pub after_events : List Event → Outcome → Outcome
-after_events events outcome = record outcome { events = events ++ outcome.events }
+-- What statements come to: their events, and how they stand.
+pub record Course : Type 0 where
+  pub events : List Event
+  pub stands : Standing
+
+-- a course with these events before it
+abbrev pub after_events : List Event → Course → Course
+after_events events course = record course { events = events ++ course.events }
 
 -- the database after the transaction, or its trap
 abbrev pub transacted_by : StoredProgram → List Bound → Result Value Trap
 transacted_by program database =
     inserted_all program.relation.kind program.insertions (relation_named program.relation.name database)
 
-abbrev pub by_transaction : Result Value Trap → (Value → Outcome) → Outcome
+abbrev pub by_transaction : Result Value Trap → (Value → Course) → Course
 by_transaction (Ok relation) next = next relation
 by_transaction (Err trap) next = record { events = []; stands = Trapped trap }
 
 -- what these statements of the body come to over this database
-abbrev pub comes_to : StoredProgram → List Action → List Bound → Outcome
+abbrev pub comes_to : StoredProgram → List Action → List Bound → Course
 comes_to program [] database = record { events = []; stands = Ended }
 comes_to program (Transact ∷ actions) database =
     by_transaction (transacted_by program database) (λ relation.

@@ -30,3 +30,10 @@ pub record LeavesTied (events : List Event) (database : List Bound) (old s : Sta
 pub record HasMade (events : List Event) (database : List Bound) (old s : State) : Type 0 where
   pub printed : s.said ≡ old.said ++ prints events
   pub stored : StandsFor (last events database) s
+
+-- Some of the events, the first ones, were made since old, and whatever a stop leaves is of these.
+pub record HasMadeSome (events : List Event) (database : List Bound) (old s : State) : Type 0 where
+  pub made : List Event
+  pub rest : List Event
+  pub prefix : events ≡ made ++ rest
+  pub has : HasMade made database old s

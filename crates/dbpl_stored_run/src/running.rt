@@ -1,5 +1,5 @@
 //! A run of a program over the mounted store.
-ghost use Rattle.std.specs.Prelude.{◌≡◌, ◌⊎◌, ℕ, Err, IfErr, IsSome, IsTrue, List, None, OnOk};
+ghost use Rattle.std.specs.Prelude.{◌≡◌, ◌≢◌, ◌⊎◌, ℕ, Err, IfErr, IsSome, IsTrue, List, None, OnOk};
 ghost use Rattle.dbpl_stored_program.specs.Meaning.{Ended, Trapped};
 ghost use Rattle.dbpl_stored_program.specs.Programs.{is_small_program};
 ghost use Rattle.dbpl_stored_program.specs.Whole.{events_of, whole_run};
@@ -8,12 +8,12 @@ ghost use Rattle.dbpl_value.specs.Binding.{Binds, Differs};
 ghost use Rattle.dbpl_log.specs.Records.{HasHead};
 ghost use Rattle.dbpl_store.specs.Stands.{LeavesOld, stands};
 ghost use Rattle.dbpl_stored_run.specs.Answers.{HasOther, HasRun, IsDue, IsRefusal, ReadsAs};
-ghost use Rattle.dbpl_stored_run.specs.Headline.{HasMade, LeavesTied, StandsFor};
+ghost use Rattle.dbpl_stored_run.specs.Headline.{HasMade, HasMadeSome, LeavesTied, StandsFor};
 ghost use Rattle.dbpl_stored_run.specs.Leaving.{ChangesStore, OnlyRunFaults};
 ghost use Rattle.dbpl_stored_run.specs.declared.stop_err.StopErr.TheVariants as errors;
 ghost use Rattle.dbpl_value.specs.declared.bound.Bound.{Bound};
 ghost use Rattle.dbpl_world.specs.Counts.{Rose};
-ghost use Rattle.dbpl_world.specs.History.{now};
+ghost use Rattle.dbpl_world.specs.History.{now, settled_store};
 ghost use Rattle.dbpl_world.specs.Moments.{EachMoment};
 
 use crate::StopErr;
@@ -64,7 +64,14 @@ pub fn run_stored<W: World>(
     ensures out_fault { result ≡ Err errors.OutFault → Rose (W.counts world.old).say_faults (W.counts world.new).say_faults }
     ensures out_fault_where { (result ≡ Err errors.OutFault) ⊎ ((W.counts world.new).say_faults ≡ (W.counts world.old).say_faults) }
 
-    // What is left as it was.
+    // Unless the disk failed no transaction is half there: one prefix of the events was made, and what a stop leaves is of
+    // that one.
+    ensures at_rest { IsTrue W.tells → (database bound : List Bound) → StandsFor database (now (W.history world.old)) → Binds program.now.relation database bound →
+        result ≢ Err errors.DiskFault → HasMadeSome (events_of program.now bound (now (W.history world.old)).input) database (now (W.history world.old)) (now (W.history world.new)) }
+
+    // What is left as it was. A refusal comes once both parts are synced.
+    ensures settled { IsTrue W.tells → IfErr result (λ why. IsRefusal why →
+        (now (W.history world.new)).disk ≡ settled_store (now (W.history world.old)).disk.log.now (now (W.history world.old)).disk.pages.now) }
     ensures refused { IsTrue W.tells → IfErr result (λ why. IsRefusal why → EachMoment (LeavesOld (now (W.history world.old))) (W.history world.old) (W.history world.new)) }
     ensures unbound { IsTrue W.tells → ((database bound : List Bound) → ReadsAs database (now (W.history world.old)) → Binds program.now.relation database bound → ⊥) →
         EachMoment (LeavesOld (now (W.history world.old))) (W.history world.old) (W.history world.new) }

@@ -1,2 +1,4 @@
+pub mod Commands
+pub mod Next
 pub mod Notes
 pub mod Wholes

@@ -1,24 +1,13 @@
 // The one call that the program makes.
-ghost use Rattle.std.specs.Prelude.{◌≡◌, ◌⊎◌, ◌≤◌, ℕ, List, map, IsSomeAnd, IsTrue, Some};
-ghost use Rattle.dbpl_alone.specs.Headline.{PrintsPrefix, SaidSince};
-ghost use Rattle.dbpl_alone.specs.RunsAlone.{RunsAlone};
-ghost use Rattle.dbpl_stored_program.specs.Whole.{events_of};
-ghost use Rattle.dbpl_stored_program.specs.declared.stored_program.StoredProgram.{StoredProgram};
-ghost use Rattle.dbpl_value.specs.Binding.{Binds};
-ghost use Rattle.dbpl_alone.specs.Modules.{IsModule};
-ghost use Rattle.dbpl_alone.specs.declared.program.Program.{Program};
-ghost use Rattle.dbpl_stored_modes.specs.Creating.{Creates};
-ghost use Rattle.dbpl_stored_modes.specs.Images.{ReadsThere, StandsThere};
-ghost use Rattle.dbpl_stored_modes.specs.Runs.{IsProgramOf, Runs};
-ghost use Rattle.dbpl_stored_modes.specs.StoredRuns.{HasAll};
-ghost use Rattle.dbpl_stored_run.specs.Headline.{HasMadePrefix};
+ghost use Rattle.std.specs.Prelude.{◌≡◌, ◌≤◌, ℕ, List, map, IsTrue};
+ghost use Rattle.dbpl_core.specs.Outcomes.{TellsOfEnd};
+ghost use Rattle.dbpl_promise.specs.Promises.{Answered};
+ghost use Rattle.dbpl_promise.specs.Runs.{IsTiedThroughout, IsWholeFromThen, Run, StoodFor};
+ghost use Rattle.dbpl_promise.specs.Work.{IsTold, work_of};
+ghost use Rattle.dbpl_tool.specs.Commands.{IsReported, Runs, promise_of};
 ghost use Rattle.dbpl_tool.specs.Notes.{NotedSince, OnlyCommandFaults, Reports};
-ghost use Rattle.dbpl_tool.specs.Wholes.{IsWhole};
-ghost use Rattle.dbpl_value.specs.declared.bound.Bound.{Bound};
-ghost use Rattle.dbpl_words.specs.Asked.{Asked, Asks, AsksAlone, AsksToCreate, AsksToRun};
-ghost use Rattle.dbpl_world.specs.Files.{file_of};
+ghost use Rattle.dbpl_words.specs.Asked.{Asked, Asks};
 ghost use Rattle.dbpl_world.specs.History.{Noted, more, now};
-ghost use Rattle.dbpl_world.specs.Moments.{EachMoment, Might, clock};
 
 use crate::working::work;
 use dbpl_base::{Name, Status, Steps};
@@ -40,51 +29,19 @@ pub fn dbpl<W: World, S: Shelf, L: Ledger>(
     _steps: &mut Steps<L>,
 ) -> Status
     // THE HEADLINE: whatever a stop at any moment of the run could leave of the store, and the bytes said by then, are those
-    // of one prefix of the program's events: its prints are the bytes, and its last commit is the database that the store
-    // stands for. From the end on of a run that ended or trapped it is the whole list, over the database that a read gave.
-    ensures headline { IsTrue W.tells → (store schema program : List ℕ) (stored : StoredProgram) (database bound : List Bound) → AsksToRun words.now store schema program →
-        IsProgramOf (S.files shelf.old) schema program stored → StandsThere store (now (W.history world.old)) database → Binds stored.relation database bound →
-        (log pages said : List ℕ) → Might (W.history world.new) store (clock (W.history world.old)) log pages said →
-        HasMadePrefix (events_of stored bound (now (W.history world.old)).input) database (now (W.history world.old)).said log pages said }
-    ensures whole { IsTrue W.tells → (store schema program : List ℕ) (stored : StoredProgram) (database bound : List Bound) → AsksToRun words.now store schema program →
-        IsProgramOf (S.files shelf.old) schema program stored → ReadsThere store (now (W.history world.old)) database → Binds stored.relation database bound →
-        IsWhole result → (log pages said : List ℕ) → Might (W.history world.new) store (clock (W.history world.new)) log pages said →
-        HasAll (events_of stored bound (now (W.history world.old)).input) database (now (W.history world.old)).said log pages said }
-    // Without a store the same is said of the bytes alone.
-    ensures headline_alone { IsTrue W.tells → (file text : List ℕ) (program : Program) → AsksAlone words.now file → IsSomeAnd (S.files shelf.old) (λ files. file_of files file ≡ Some text) →
-        IsModule text program → EachMoment (SaidSince (now (W.history world.old)).said (PrintsPrefix program)) (W.history world.old) (W.history world.new) }
+    // of one prefix of the events that its meaning gives within some number of turns: its prints are the bytes, and its last
+    // commit is the database that the store stands for. From the end on of a run that ended or trapped it is the whole list,
+    // with its end or its trap, and the input left is the one that the meaning leaves. Without a store the same is said of
+    // the bytes alone.
+    ensures headline { let work = work_of S.Shelf W.World shelf.old shelf.new world.old world.new in
+        IsTold work → (run : Run) → Runs words.now work run → StoodFor run (now work.before) → IsTiedThroughout run work }
+    ensures whole { let work = work_of S.Shelf W.World shelf.old shelf.new world.old world.new in
+        IsTold work → (run : Run) → Runs words.now work run → TellsOfEnd result → IsWholeFromThen run work result }
 
-    // Each command, its answers and what it leaves.
-    ensures runs { (store schema program : List ℕ) → AsksToRun words.now store schema program → Runs store schema program (record {
-      files = S.files shelf.old;
-      shelf_faults_before = S.shelf_faults shelf.old;
-      shelf_faults_after = S.shelf_faults shelf.new;
-      tells = W.tells;
-      before = W.history world.old;
-      after = W.history world.new;
-      counts_before = W.counts world.old;
-      counts_after = W.counts world.new;
-    }) result }
-    ensures creates { (store : List ℕ) → AsksToCreate words.now store → Creates store (record {
-      files = S.files shelf.old;
-      shelf_faults_before = S.shelf_faults shelf.old;
-      shelf_faults_after = S.shelf_faults shelf.new;
-      tells = W.tells;
-      before = W.history world.old;
-      after = W.history world.new;
-      counts_before = W.counts world.old;
-      counts_after = W.counts world.new;
-    }) result }
-    ensures alone { (file : List ℕ) → AsksAlone words.now file → RunsAlone file (record {
-      files = S.files shelf.old;
-      shelf_faults_before = S.shelf_faults shelf.old;
-      shelf_faults_after = S.shelf_faults shelf.new;
-      tells = W.tells;
-      before = W.history world.old;
-      after = W.history world.new;
-      counts_before = W.counts world.old;
-      counts_after = W.counts world.new;
-    }) result }
+    // Each command keeps its promise: which answer is due, what may stand at each moment and what stands at the end. Then its
+    // report is noted.
+    ensures answers { (asked : Asked) → Asks words.now asked →
+        IsReported (Answered (promise_of asked)) (work_of S.Shelf W.World shelf.old shelf.new world.old world.new) result }
     ensures bad_words { ((asked : Asked) → Asks words.now asked → ⊥) → result ≡ Status.BadWords }
     ensures bad_words_only { result ≡ Status.BadWords → (asked : Asked) → Asks words.now asked → ⊥ }
 

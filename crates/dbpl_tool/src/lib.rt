@@ -2,9 +2,13 @@
 #![tactic(auto)]
 
 mod command;
+mod laws;
+mod next;
 mod working;
 
 pub use command::dbpl;
+pub use laws::one_answer;
+pub use next::one_behind_another;
 
 #[cfg(test)]
 mod store_tests;

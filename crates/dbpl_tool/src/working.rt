@@ -1,10 +1,10 @@
 // The work of a command, from its words to its answer. Nothing is noted here.
-ghost use Rattle.std.specs.Prelude.{◌≡◌, ◌≤◌, ℕ, List, IsTrue};
-ghost use Rattle.dbpl_alone.specs.RunsAlone.{RunsAlone};
-ghost use Rattle.dbpl_stored_modes.specs.Creating.{Creates};
-ghost use Rattle.dbpl_stored_modes.specs.Runs.{Runs};
+ghost use Rattle.std.specs.Prelude.{◌≡◌, ◌≤◌, IsTrue};
+ghost use Rattle.dbpl_promise.specs.Promises.{Answered};
+ghost use Rattle.dbpl_promise.specs.Work.{work_of};
 ghost use Rattle.dbpl_stored_run.specs.Leaving.{OnlyRunFaults};
-ghost use Rattle.dbpl_words.specs.Asked.{Asked, Asks, AsksAlone, AsksToCreate, AsksToRun};
+ghost use Rattle.dbpl_tool.specs.Commands.{promise_of};
+ghost use Rattle.dbpl_words.specs.Asked.{Asked, Asks};
 ghost use Rattle.dbpl_world.specs.History.{now};
 
 use dbpl_alone::run_alone;
@@ -21,36 +21,8 @@ pub(crate) fn work<W: World, S: Shelf>(
     shelf: &mut S,
     world: &mut W,
 ) -> Status
-    ensures alone { (file : List ℕ) → AsksAlone words.now file → RunsAlone file (record {
-      files = S.files shelf.old;
-      shelf_faults_before = S.shelf_faults shelf.old;
-      shelf_faults_after = S.shelf_faults shelf.new;
-      tells = W.tells;
-      before = W.history world.old;
-      after = W.history world.new;
-      counts_before = W.counts world.old;
-      counts_after = W.counts world.new;
-    }) result }
-    ensures creates { (store : List ℕ) → AsksToCreate words.now store → Creates store (record {
-      files = S.files shelf.old;
-      shelf_faults_before = S.shelf_faults shelf.old;
-      shelf_faults_after = S.shelf_faults shelf.new;
-      tells = W.tells;
-      before = W.history world.old;
-      after = W.history world.new;
-      counts_before = W.counts world.old;
-      counts_after = W.counts world.new;
-    }) result }
-    ensures runs { (store schema program : List ℕ) → AsksToRun words.now store schema program → Runs store schema program (record {
-      files = S.files shelf.old;
-      shelf_faults_before = S.shelf_faults shelf.old;
-      shelf_faults_after = S.shelf_faults shelf.new;
-      tells = W.tells;
-      before = W.history world.old;
-      after = W.history world.new;
-      counts_before = W.counts world.old;
-      counts_after = W.counts world.new;
-    }) result }
+    ensures answers { (asked : Asked) → Asks words.now asked →
+        Answered (promise_of asked) (work_of S.Shelf W.World shelf.old shelf.new world.old world.new) result }
     ensures bad_words { ((asked : Asked) → Asks words.now asked → ⊥) → result ≡ Status.BadWords }
     ensures bad_words_only { result ≡ Status.BadWords → (asked : Asked) → Asks words.now asked → ⊥ }
     ensures idle { result ≡ Status.BadWords → (world.new ≡ world.old) × (shelf.new ≡ shelf.old) }

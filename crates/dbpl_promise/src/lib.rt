@@ -1,0 +1,3 @@
+//! What a command promises: the stages in which its refusals come, what may stand at each moment, what stands at its end,
+//! and the headline of a run.
+#![tactic(auto)]
