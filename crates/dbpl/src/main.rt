@@ -9,10 +9,10 @@ mod words;
 use dbpl_base::Status;
 use dbpl_words::note_report;
 use dbpl_world::{FileShelf, RealWorld};
+use ending::code_after;
 use std::marker::Brand;
 use std::process::ExitCode;
 use std::sync::ledger::Blank;
-use ending::code_after;
 use streams::keep_streams_open;
 use words::command_words;
 

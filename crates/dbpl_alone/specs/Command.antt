@@ -16,7 +16,12 @@ IsNoModule text work _ = ⊥
 
 -- THE stage in which a text has to be a module that can be run
 abbrev pub accepted : List ℕ → Stage Program
-accepted text = record { passes = λ work program. IsModule text program; refuses = IsNoModule text; fails = Never; mounts = Never }
+accepted text = record {
+  passes = λ work program. IsModule text program;
+  refuses = IsNoModule text;
+  fails = Never;
+  mounts = Never;
+}
 
 -- THE row: what is run, or why nothing is
 abbrev pub runs_alone : List ℕ → Stage Run

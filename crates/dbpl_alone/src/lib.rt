@@ -11,7 +11,7 @@ mod reading;
 mod running;
 mod statement;
 
-pub use laws::module_meaning_is_steady;
+pub use laws::{module_meaning_is_steady, one_answer_alone};
 pub use module_laws::{one_answer, one_form};
 pub use program::Program;
 pub use running::run_alone;

@@ -22,7 +22,8 @@ pub fn run_alone<W: World, S: Shelf>(
     shelf: &mut S,
     world: &mut W,
 ) -> Status
-    ensures runs { Answered (running (runs_alone file.now)) (work_of S.Shelf W.World shelf.old shelf.new world.old world.new) result }
+    ensures runs { Answered (running (runs_alone file.now))
+        (work_of S.Shelf W.World shelf.old shelf.new world.old world.new) result }
     ensures quiet { IsSilent result → world.new ≡ world.old }
     ensures unnoted { IsTrue W.tells → (now (W.history world.new)).noted ≡ (now (W.history world.old)).noted }
     ensures same { W.mounted world.new ≡ W.mounted world.old }

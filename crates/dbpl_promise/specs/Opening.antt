@@ -64,7 +64,12 @@ IsUnbound field database work _ = ⊥
 
 -- THE stage in which a relation variable is bound to a database; it passes with the database that has it
 abbrev pub bound : Field → List Bound → Stage (List Bound)
-bound field database = record { passes = λ work after. Binds field database after; refuses = IsUnbound field database; fails = Never; mounts = Never }
+bound field database = record {
+  passes = λ work after. Binds field database after;
+  refuses = IsUnbound field database;
+  fails = Never;
+  mounts = Never;
+}
 
 -- THE stage in which these are bound, one after another: the first that can't be is refused
 abbrev pub all_bound : List Field → List Bound → Stage (List Bound)

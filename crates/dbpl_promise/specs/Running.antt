@@ -1,5 +1,5 @@
 -- The promise of a command that runs a program, and of one that only reads files.
-use Rattle.std.specs.Prelude.{◌≡◌, ◌≢◌, ◌⊎◌, ℕ, IsSomeAnd, IsTrue, List, Option, None, Some}
+use Rattle.std.specs.Prelude.{◌≡◌, ◌≢◌, ◌⊎◌, ℕ, IsTrue, List, Option, None, Some}
 use Rattle.dbpl_base.specs.declared.status.Status.{Status}
 use Rattle.dbpl_base.specs.declared.status.Status.TheVariants as status
 use Rattle.dbpl_core.specs.Events.{Event}
@@ -59,8 +59,8 @@ pub record EndsRun (stage : Stage Run) (work : Work) (answer : Status) (s : Stat
   pub whole : IsTold work → (run : Run) → stage.passes work run → TellsOfEnd answer →
       Leaves run.store (IsWhole run (now work.before) answer s.input) s
   -- Unless the disk failed no transaction is half there: before its last sync no other answer comes.
-  pub at_rest : IsTold work → (run : Run) → stage.passes work run → StoodFor run (now work.before) → answer ≢ status.DiskFault →
-      HasMadeSome run (now work.before) s
+  pub at_rest : IsTold work → (run : Run) → stage.passes work run → StoodFor run (now work.before) →
+      answer ≢ status.DiskFault → HasMadeSome run (now work.before) s
   -- What is refused once the store may be mounted, is so only when it was made sure of.
   pub settled : IsTold work → stage.refuses work answer → (name : List ℕ) → stage.mounts work name →
       store_of s name ≡ made_sure (store_before name work)
@@ -71,4 +71,9 @@ running stage = record { due = stage >>= ended; runs = stage.passes; may = MayRu
 
 -- THE promise of a command that only reads
 abbrev pub reading : Stage Status → Promise
-reading stage = record { due = stage; runs = Never; may = λ work answer s. IsUntouched (now work.before) s; ends = λ work answer s. Unit {0} }
+reading stage = record {
+  due = stage;
+  runs = Never;
+  may = λ work answer s. IsUntouched (now work.before) s;
+  ends = λ work answer s. Unit {0};
+}

@@ -1,5 +1,5 @@
 -- What is run, and that it makes its events in order: THE headline.
-use Rattle.std.specs.Prelude.{◌≡◌, ◌⊎◌, ◌≤◌, ℕ, List, [], ◌++◌, Option, None, Some}
+use Rattle.std.specs.Prelude.{◌≡◌, ◌≤◌, ℕ, List, [], ◌++◌, Option, None, Some}
 use Rattle.dbpl_base.specs.declared.status.Status.{Status}
 use Rattle.dbpl_core.specs.Events.{Event, last, prints}
 use Rattle.dbpl_core.specs.Outcomes.{IsToldBy, MayHaveMade, Outcome}
@@ -49,7 +49,8 @@ pub record IsTied (run : Run) (old : State) (found : Option (List Bound)) (said 
 
 -- Within some number of turns the meaning ends as the answer tells, all its events were made since old, and the input left
 -- is the one that it left.
-pub record IsWhole (run : Run) (old : State) (answer : Status) (left : List ℕ) (found : Option (List Bound)) (said : List ℕ) : Type 0 where
+pub record IsWhole (run : Run) (old : State) (answer : Status) (left : List ℕ) (found : Option (List Bound)) (said : List ℕ)
+    : Type 0 where
   pub turns : ℕ
   pub ends : IsToldBy (run.means old.input turns).stands answer
   pub has : HasMade run old (run.means old.input turns).events found said
@@ -64,4 +65,5 @@ IsTiedThroughout run work = (found : Option (List Bound)) (said : List ℕ) →
 -- THE HEADLINE of a run to its end: from then on it is the whole list.
 abbrev pub IsWholeFromThen : Run → Work → Status → Type 0
 IsWholeFromThen run work answer = (found : Option (List Bound)) (said : List ℕ) →
-    Left run.store work.after (clock work.after) found said → IsWhole run (now work.before) answer (now work.after).input found said
+    Left run.store work.after (clock work.after) found said →
+    IsWhole run (now work.before) answer (now work.after).input found said

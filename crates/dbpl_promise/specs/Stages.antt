@@ -41,6 +41,12 @@ gives a = record { passes = λ work b. b ≡ a; refuses = Never; fails = Never; 
 abbrev pub Stops : {A : Type 0} → Stage A → Work → Status → Type 0
 Stops stage work answer = stage.refuses work answer ⊎ (stage.fails work answer ⊎ (answer ≡ status.Memory))
 
+-- THE law of stages, where all is told: a stage passes with one thing, or is refused by one answer, and never both.
+pub record IsDetermined {A : Type 0} (stage : Stage A) (work : Work) : Type 0 where
+  pub one : (a b : A) → stage.passes work a → stage.passes work b → a ≡ b
+  pub refusal : (answer other : Status) → stage.refuses work answer → stage.refuses work other → answer ≡ other
+  pub apart : (a : A) (answer : Status) → stage.passes work a → stage.refuses work answer → ⊥
+
 -- THE answer that is due: the refusal of the first stage that doesn't pass, or that with which all pass
 abbrev pub IsDue : Stage Status → Work → Status → Type 0
 IsDue stage work answer = stage.refuses work answer ⊎ stage.passes work answer

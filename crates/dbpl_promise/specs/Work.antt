@@ -1,7 +1,7 @@
 -- What a command met and did.
-use Rattle.std.specs.Prelude.{◌≡◌, ◌≤◌, ℕ, Bool, IsSome, IsTrue, Option}
+use Rattle.std.specs.Prelude.{◌≡◌, ◌≤◌, ℕ, Bool, IsSome, IsTrue, List, Option, map}
 use Rattle.dbpl_world.specs.Files.{Files}
-use Rattle.dbpl_world.specs.History.{History}
+use Rattle.dbpl_world.specs.History.{History, Noted, more}
 use Rattle.dbpl_world.specs.declared.counts.Counts.{Counts}
 use Rattle.dbpl_world.specs.declared.outside.World as outside
 use Rattle.dbpl_world.specs.declared.shelf.Shelf as shelf
@@ -36,12 +36,15 @@ abbrev pub work_of : {S W : Type 0} → shelf.Ghosts S → outside.Ghosts W → 
 work_of files world shelf_before shelf_after before after =
     work_in world (files.files shelf_before) (files.shelf_faults shelf_before) (files.shelf_faults shelf_after) before after
 
--- The shelf told these files, and it failed in this work as often as from the first of these counts to the second, or more
--- often.
-pub record HasFetched (work : Work) (files : Option Files) (faults_before faults_after : ℕ) : Type 0 where
-  pub files_are : work.files ≡ files
-  pub begins : work.shelf_faults_before ≤ faults_before
-  pub ends : faults_after ≤ work.shelf_faults_after
+-- where the world tells, nothing happened to it but that bytes were noted, perhaps none
+abbrev pub OnlyNotes : Work → Type 0
+OnlyNotes work = IsTrue work.tells → (bytes : List ℕ) × (work.after ≡ more work.before (map Noted bytes))
+
+-- The work is one with this shelf, in the course of which it went from the one to the other.
+pub record IsOver {S : Type 0} (files : shelf.Ghosts S) (before after : S) (work : Work) : Type 0 where
+  pub files_are : work.files ≡ files.files before
+  pub begins : work.shelf_faults_before ≤ files.shelf_faults before
+  pub ends : files.shelf_faults after ≤ work.shelf_faults_after
 
 -- the shelf tells its files, and the world what has happened
 pub record IsTold (work : Work) : Type 0 where

@@ -46,7 +46,8 @@ pub record EndsCreate (name : List ℕ) (work : Work) (answer : Status) (s : Sta
   pub made : answer ≡ status.Done → StandsThere name s []
   pub bytes : answer ≡ status.Done → (store_of s name).log.now ≡ begun (store_before name work).log.now
   -- What is refused was made sure of first.
-  pub settled : (answer ≡ status.Exists) ⊎ (answer ≡ status.Foreign) → store_of s name ≡ made_sure (store_before name work)
+  pub settled : (answer ≡ status.Exists) ⊎ (answer ≡ status.Foreign) →
+      store_of s name ≡ made_sure (store_before name work)
 
 -- THE row
 abbrev pub creates : List ℕ → Promise

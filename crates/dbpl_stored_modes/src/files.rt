@@ -6,7 +6,7 @@ ghost use Rattle.dbpl_stored_modes.specs.Reading.{AreRefused};
 ghost use Rattle.dbpl_promise.specs.Promises.{Answered};
 ghost use Rattle.dbpl_promise.specs.Running.{running};
 ghost use Rattle.dbpl_promise.specs.Stages.{Stops};
-ghost use Rattle.dbpl_promise.specs.Work.{HasFetched, Work, work_of};
+ghost use Rattle.dbpl_promise.specs.Work.{IsOver, Work, work_of};
 ghost use Rattle.dbpl_stored_modes.specs.RunCommand.{reads_program, runs_over};
 ghost use Rattle.dbpl_stored_run.specs.Leaving.{OnlyRunFaults};
 ghost use Rattle.dbpl_world.specs.History.{now};
@@ -30,7 +30,8 @@ pub fn run_files<W: World, S: Shelf>(
     shelf: &mut S,
     world: &mut W,
 ) -> Status
-    ensures runs { Answered (running (runs_over store.now schema.now program.now)) (work_of S.Shelf W.World shelf.old shelf.new world.old world.new) result }
+    ensures runs { Answered (running (runs_over store.now schema.now program.now))
+        (work_of S.Shelf W.World shelf.old shelf.new world.old world.new) result }
     ensures unnoted { IsTrue W.tells → (now (W.history world.new)).noted ≡ (now (W.history world.old)).noted }
     ensures counts { OnlyRunFaults (W.counts world.old) (W.counts world.new) }
     ensures files { S.files shelf.new ≡ S.files shelf.old }
@@ -49,10 +50,10 @@ fn program_in<S: Shelf>(
     program: &str,
     shelf: &mut S,
 ) -> Result<StoredProgram, Status>
-    ensures found { (work : Work) → HasFetched work (S.files shelf.old) (S.shelf_faults shelf.old) (S.shelf_faults shelf.new) →
+    ensures found { (work : Work) → IsOver S.Shelf shelf.old shelf.new work →
         IfOk result (λ stored. (reads_program schema.now program.now).passes work stored) }
     ensures small { IfOk result (λ stored. IsTrue (is_small_program stored)) }
-    ensures err { (work : Work) → HasFetched work (S.files shelf.old) (S.shelf_faults shelf.old) (S.shelf_faults shelf.new) →
+    ensures err { (work : Work) → IsOver S.Shelf shelf.old shelf.new work →
         IfErr result (Stops (reads_program schema.now program.now) work) }
     ensures files { S.files shelf.new ≡ S.files shelf.old }
     ensures faults { S.shelf_faults shelf.old ≤ S.shelf_faults shelf.new }

@@ -26,7 +26,8 @@ pub fn run_over<W: World>(
 ) -> Status
     requires small { IsTrue (is_small_program program.now) }
     ensures runs { (files : Option Files) (faults_before faults_after : ℕ) →
-        Answered (running (runs_program store.now program.now)) (work_in W.World files faults_before faults_after world.old world.new) result }
+        Answered (running (runs_program store.now program.now))
+        (work_in W.World files faults_before faults_after world.old world.new) result }
     ensures unnoted { IsTrue W.tells → (now (W.history world.new)).noted ≡ (now (W.history world.old)).noted }
     ensures counts { OnlyRunFaults (W.counts world.old) (W.counts world.new) }
 {

@@ -28,6 +28,10 @@ pub record Course : Type 0 where
   pub events : List Event
   pub stands : Standing
 
+-- and the outcome of that, which leaves the input as it was
+abbrev pub leaving : List ℕ → Course → Outcome
+leaving input course = record { events = course.events; stands = course.stands; left = input }
+
 -- a course with these events before it
 abbrev pub after_events : List Event → Course → Course
 after_events events course = record course { events = events ++ course.events }

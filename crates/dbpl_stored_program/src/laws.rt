@@ -5,7 +5,7 @@ ghost use Rattle.dbpl_base.specs.declared.limits.TheConstants.{RELATION_NAME_BYT
 ghost use Rattle.dbpl_core.specs.Events.{Event};
 ghost use Rattle.dbpl_stored_program.specs.Meaning.{Going, meaning, with_named};
 ghost use Rattle.dbpl_stored_program.specs.Programs.{flat_type, is_flat};
-ghost use Rattle.dbpl_stored_program.specs.Whole.{comes_to, events_of, turns_of, whole_run};
+ghost use Rattle.dbpl_stored_program.specs.Whole.{comes_to, events_of, leaving, turns_of, whole_run};
 ghost use Rattle.dbpl_stored_program.specs.declared.stored_program.StoredProgram.{StoredProgram};
 ghost use Rattle.dbpl_value.specs.Binding.{Binds, bound_named, with_relation};
 ghost use Rattle.dbpl_value.specs.Databases.{is_kept, names_rise};
@@ -30,7 +30,7 @@ pub fn meaning_is_whole()
 /// What a program does, statement by statement, over a database to which its variable is bound. The input is any, since no
 /// statement reads.
 pub fn meaning_by_statements()
-    ensures { (program : StoredProgram) (before database : List Bound) (input : List ℕ) → Binds program.relation before database → whole_run program database input ≡ comes_to program program.body database }
+    ensures { (program : StoredProgram) (before database : List Bound) (input : List ℕ) → Binds program.relation before database → whole_run program database input ≡ leaving input (comes_to program program.body database) }
 {}
 
 /// A variable found by its name is the one at its place: it has the name alone, since names rise.

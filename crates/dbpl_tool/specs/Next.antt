@@ -22,8 +22,10 @@ pub record FollowsOn (words next : List (List ℕ)) (work : Work) (answer next_a
   pub history : History
   pub counts : Counts
   pub shelf_faults : ℕ
-  pub first : Keeps words (record work { after = history; counts_after = counts; shelf_faults_after = shelf_faults }) answer
-  pub second : Keeps next (record work { before = history; counts_before = counts; shelf_faults_before = shelf_faults }) next_answer
+  pub first : Keeps words
+      (record work { after = history; counts_after = counts; shelf_faults_after = shelf_faults }) answer
+  pub second : Keeps next
+      (record work { before = history; counts_before = counts; shelf_faults_before = shelf_faults }) next_answer
   -- THE HEADLINE of the second, where the first one left the store
   pub tied : (store : List ℕ) → LeavesStore words store answer → (run : Run) → run.store ≡ Some store →
       Runs next (record work { before = history }) run → IsTiedThroughout run (record work { before = history })

@@ -1,13 +1,13 @@
 // The one call that the program makes.
-ghost use Rattle.std.specs.Prelude.{◌≡◌, ◌≤◌, ℕ, List, map, IsTrue};
+ghost use Rattle.std.specs.Prelude.{◌≡◌, ◌≤◌};
 ghost use Rattle.dbpl_core.specs.Outcomes.{TellsOfEnd};
 ghost use Rattle.dbpl_promise.specs.Promises.{Answered};
 ghost use Rattle.dbpl_promise.specs.Runs.{IsTiedThroughout, IsWholeFromThen, Run, StoodFor};
-ghost use Rattle.dbpl_promise.specs.Work.{IsTold, work_of};
+ghost use Rattle.dbpl_promise.specs.Work.{IsTold, OnlyNotes, work_of};
 ghost use Rattle.dbpl_tool.specs.Commands.{IsReported, Runs, promise_of};
-ghost use Rattle.dbpl_tool.specs.Notes.{NotedSince, OnlyCommandFaults, Reports};
+ghost use Rattle.dbpl_tool.specs.Notes.{NotesReport, OnlyCommandFaults};
 ghost use Rattle.dbpl_words.specs.Asked.{Asked, Asks};
-ghost use Rattle.dbpl_world.specs.History.{Noted, more, now};
+ghost use Rattle.dbpl_world.specs.History.{now};
 
 use crate::working::work;
 use dbpl_base::{Name, Status, Steps};
@@ -34,22 +34,25 @@ pub fn dbpl<W: World, S: Shelf, L: Ledger>(
     // with its end or its trap, and the input left is the one that the meaning leaves. Without a store the same is said of
     // the bytes alone.
     ensures headline { let work = work_of S.Shelf W.World shelf.old shelf.new world.old world.new in
-        IsTold work → (run : Run) → Runs words.now work run → StoodFor run (now work.before) → IsTiedThroughout run work }
+        IsTold work → (run : Run) → Runs words.now work run → StoodFor run (now work.before) →
+        IsTiedThroughout run work }
     ensures whole { let work = work_of S.Shelf W.World shelf.old shelf.new world.old world.new in
         IsTold work → (run : Run) → Runs words.now work run → TellsOfEnd result → IsWholeFromThen run work result }
 
     // Each command keeps its promise: which answer is due, what may stand at each moment and what stands at the end. Then its
     // report is noted.
     ensures answers { (asked : Asked) → Asks words.now asked →
-        IsReported (Answered (promise_of asked)) (work_of S.Shelf W.World shelf.old shelf.new world.old world.new) result }
+        IsReported (Answered (promise_of asked))
+        (work_of S.Shelf W.World shelf.old shelf.new world.old world.new) result }
     ensures bad_words { ((asked : Asked) → Asks words.now asked → ⊥) → result ≡ Status.BadWords }
     ensures bad_words_only { result ≡ Status.BadWords → (asked : Asked) → Asks words.now asked → ⊥ }
 
     // What is noted, and what is left as it was.
-    ensures noted { IsTrue W.tells → NotedSince (now (W.history world.old)).noted (Reports (W.counts world.old) (W.counts world.new) result) (now (W.history world.new)) }
+    ensures noted { NotesReport (work_of S.Shelf W.World shelf.old shelf.new world.old world.new) result }
     ensures unnoted { result ≡ Status.Done → (W.counts world.new).note_faults ≡ (W.counts world.old).note_faults }
     ensures unasked { result ≡ Status.BadWords → shelf.new ≡ shelf.old }
-    ensures idle { IsTrue W.tells → result ≡ Status.BadWords → (bytes : List ℕ) × (W.history world.new ≡ more (W.history world.old) (map Noted bytes)) }
+    ensures idle { result ≡ Status.BadWords →
+        OnlyNotes (work_of S.Shelf W.World shelf.old shelf.new world.old world.new) }
     ensures counts { OnlyCommandFaults (W.counts world.old) (W.counts world.new) }
     ensures files { S.files shelf.new ≡ S.files shelf.old }
     ensures shelf_faults { S.shelf_faults shelf.old ≤ S.shelf_faults shelf.new }
