@@ -5,7 +5,7 @@ use Rattle.dbpl_stored_program.proofs.Databases.{named-after, relation_named-is,
 use Rattle.dbpl_core.specs.Events.{Commit, Event, Out}
 use Rattle.dbpl_stored_program.specs.Insertions.{and_then, inserted, inserted_all, right_side, with_set}
 use Rattle.dbpl_stored_program.specs.Meaning.{◌>>=◌, Done, Ended, Outcome, Ran, Standing, State, Stops, Trapped, action_meaning, block, commits, gives, go_on, insertion_meaning, makes, meaning, outcome_of, puts_relation, reads_relation, relation_named, stops, transaction_meaning, before_zero, turn, with_named}
-use Rattle.dbpl_stored_program.specs.Whole.{after_events, by_transaction, comes_to, transacted_by, whole_run}
+use Rattle.dbpl_stored_program.specs.Whole.{Course, after_events, by_transaction, comes_to, leaving, transacted_by, whole_run}
 use Rattle.dbpl_stored_program.specs.declared.action.Action.{Action}
 use Rattle.dbpl_stored_program.specs.declared.action.Action.TheVariants.{Transact, WriteLn, WriteString}
 use Rattle.dbpl_stored_program.specs.declared.insertion.Insertion.{Insertion}
@@ -114,34 +114,40 @@ transaction-commits program state bound found =
 
 -- ---- the body
 
--- an outcome goes on from these events as the statements come to
-abbrev From : List Event → Outcome → Ran (Unit {0}) → Type 0
-From events outcome ran = outcome_of ran ≡ after_events events outcome
+-- an outcome goes on from these events as the statements come to, and leaves this input
+abbrev From : List Event → List ℕ → Course → Ran (Unit {0}) → Type 0
+From events input course ran = outcome_of ran ≡ leaving input (after_events events course)
+
+-- an outcome with these events
+abbrev with_events : Standing → List ℕ → List Event → Outcome
+with_events standing input events = record { events = events; stands = standing; left = input }
 
 from-more :
-    (events made : List Event) (outcome : Outcome) (ran : Ran (Unit {0})) → From (events ++ made) outcome ran →
-    From events (after_events made outcome) ran
-from-more events made outcome ran from =
-    from ∙ ap (λ (es : List Event). record { events = es; stands = outcome.stands }) (append_assoc events made outcome.events)
+    (events made : List Event) (input : List ℕ) (course : Course) (ran : Ran (Unit {0})) →
+    From (events ++ made) input course ran → From events input (after_events made course) ran
+from-more events made input course ran from =
+    from ∙ ap (with_events course.stands input) (append_assoc events made course.events)
 
-from-none : (events : List Event) (standing : Standing) → record { events = events; stands = standing } ≡ after_events events (record { events = []; stands = standing })
-from-none events standing = ap (λ (es : List Event). record { events = es; stands = standing }) (sym (append-nil events))
+from-none :
+    (events : List Event) (input : List ℕ) (standing : Standing) →
+    with_events standing input events ≡ leaving input (after_events events (record { events = []; stands = standing }))
+from-none events input standing = ap (with_events standing input) (sym (append-nil events))
 
 transact-by :
     (program : StoredProgram) (actions : List Action) (state : State) (bound : Bound) (result : Result Value Trap)
     (ran : Ran (Unit {0})) → bound_named program.relation.name state.database ≡ Some bound →
     Commits program.relation.name state result ran →
     ((database : List Bound) (events : List Event) (held : Bound) → bound_named program.relation.name database ≡ Some held →
-    From events (comes_to program actions database)
+    From events state.input (comes_to program actions database)
     (block (map (action_meaning program) actions) (record { left = state.left; database = database; input = state.input; events = events }))) →
-    From state.events
+    From state.events state.input
     (by_transaction result (λ relation.
     after_events (Commit (with_named program.relation.name relation state.database) ∷ [])
     (comes_to program actions (with_named program.relation.name relation state.database))))
     (go_on ran (λ _. block (map (action_meaning program) actions)))
 transact-by program actions state bound (Ok relation) ran found commits rest =
     rw commits
-    (from-more state.events (Commit (with_named program.relation.name relation state.database) ∷ [])
+    (from-more state.events (Commit (with_named program.relation.name relation state.database) ∷ []) state.input
     (comes_to program actions (with_named program.relation.name relation state.database))
     (block (map (action_meaning program) actions) (record {
       left = state.left;
@@ -154,7 +160,7 @@ transact-by program actions state bound (Ok relation) ran found commits rest =
     (named-after program.relation.name relation state.database bound found)))
 transact-by program actions state bound (Err trap) ran found commits rest =
     ap (λ (ran : Ran (Unit {0})). outcome_of (go_on ran (λ _. block (map (action_meaning program) actions)))) commits.1
-    ∙ from-none state.events (Trapped trap)
+    ∙ from-none state.events state.input (Trapped trap)
 
 -- a run of the statements that are left
 abbrev run_of : StoredProgram → List Action → ℕ → List Bound → List ℕ → List Event → Ran (Unit {0})
@@ -164,18 +170,18 @@ run_of program actions left database input events =
 body_goes :
     (program : StoredProgram) (actions : List Action) (left : ℕ) (database : List Bound) (input : List ℕ) (events : List Event)
     (bound : Bound) → bound_named program.relation.name database ≡ Some bound → left ≡ length actions →
-    From events (comes_to program actions database)
+    From events input (comes_to program actions database)
     (block (map (action_meaning program) actions) (record { left = left; database = database; input = input; events = events }))
 unfolding ◌>>=◌ gives turn makes
-body_goes program [] left database input events bound found e = from-none events Ended
+body_goes program [] left database input events bound found e = from-none events input Ended
 body_goes program (action ∷ actions) zero database input events bound found e = absurd (omega (arith, e))
 body_goes program (WriteLn ∷ actions) (suc left) database input events bound found e =
-    from-more events (Out 10 ∷ []) (comes_to program actions database)
+    from-more events (Out 10 ∷ []) input (comes_to program actions database)
     (run_of program actions left database input (events ++ Out 10 ∷ []))
     (body_goes program actions left database input (events ++ Out 10 ∷ []) bound found (omega (arith, e)))
 body_goes program (WriteString text ∷ actions) (suc left) database input events bound found e =
     let made = map Out (before_zero text) in
-    from-more events made (comes_to program actions database) (run_of program actions left database input (events ++ made))
+    from-more events made input (comes_to program actions database) (run_of program actions left database input (events ++ made))
     (body_goes program actions left database input (events ++ made) bound found (omega (arith, e)))
 body_goes program (Transact ∷ actions) (suc left) database input events bound found e =
     let state : State = record { left = left; database = database; input = input; events = events } in
@@ -188,7 +194,7 @@ body_goes program (Transact ∷ actions) (suc left) database input events bound 
 -- THE whole run of a program, statement by statement
 pub whole-comes_to :
     (program : StoredProgram) (database : List Bound) (input : List ℕ) (bound : Bound) →
-    bound_named program.relation.name database ≡ Some bound → whole_run program database input ≡ comes_to program program.body database
+    bound_named program.relation.name database ≡ Some bound → whole_run program database input ≡ leaving input (comes_to program program.body database)
 unfolding meaning turn
 whole-comes_to program database input bound found =
     body_goes program program.body (length program.body) database input [] bound found refl
