@@ -11,7 +11,7 @@ use Rattle.dbpl_store.specs.Stores.{IsOpen, committed_of, database_in}
 use Rattle.dbpl_store.specs.declared.store.Store.{Store}
 use Rattle.dbpl_stored_run.proofs.Steps.{written-events}
 use Rattle.dbpl_stored_run.proofs.Stores.{open-kept, open-stands}
-use Rattle.dbpl_stored_run.specs.Headline.{HasMade, LeavesTied, StandsFor}
+use Rattle.dbpl_stored_run.specs.Headline.{HasMade, HasMadeSome, LeavesTied, StandsFor}
 use Rattle.dbpl_stored_run.specs.Statements.{events_by, standing_by}
 use Rattle.dbpl_stored_run.specs.declared.body_err.BodyErr.{BodyErr}
 use Rattle.dbpl_value.specs.declared.bound.Bound.{Bound}
@@ -61,6 +61,14 @@ module _ (program : StoredProgram) (action : Action) (bytes : List ℕ) (prints 
         subst (λ (events : List Event). OnOk answer (HasMade events (committed_of store) (now h0) (now h1)))
         (sym (prints.events (database_in store)))
         (made (committed_of store) (open-stands (now h0) store opened))
+
+    pub printed-some :
+        ((database : List Bound) → StandsFor database (now h0) → HasMadeSome (map Out bytes) database (now h0) (now h1)) →
+        HasMadeSome (events_by program (action ∷ []) (database_in store)) (committed_of store) (now h0) (now h1)
+    printed-some some =
+        subst (λ (events : List Event). HasMadeSome events (committed_of store) (now h0) (now h1))
+        (sym (prints.events (database_in store)))
+        (some (committed_of store) (open-stands (now h0) store opened))
 
     pub printed-open : (now h1).disk ≡ (now h0).disk → IsOpen (now h1) store
     printed-open disk = open-kept (now h0) (now h1) store store disk refl refl opened

@@ -111,6 +111,11 @@ module _ {T : Type 0} (answer : Result T StopErr) (why : BodyErr) (is : answer �
       by_why body_errors.OutFault e = absurd cc
       by_why body_errors.Memory e = absurd cc
 
+  pub stopped-fault :
+      {X : Type 0} (ran : Result X BodyErr) → ran ≡ Err why → ran ≡ Err body_errors.DiskFault → answer ≡ Err errors.DiskFault
+  stopped-fault ran was fault =
+      is ∙ ap {B = Result T StopErr} (λ (w : BodyErr). Err (of_body w)) (err-inside ran why body_errors.DiskFault was fault)
+
   pub was-out_fault : answer ≡ Err errors.OutFault → why ≡ body_errors.OutFault
   was-out_fault other = by_why why (err-inside answer (of_body why) errors.OutFault is other)
     where
@@ -222,6 +227,26 @@ module _ {T X : Type 0} (answer : Result T StopErr) (opened : Result X StoreErr)
       by_why store_errors.Disk i o = inl i
       by_why (store_errors.Damaged page) i o = absurd (sound page o)
       by_why store_errors.Memory i o = inr i
+
+  -- what holds where it refused
+  pub opening-refused :
+      (A : Type 0) →
+      ((opened ≡ Err store_errors.NotStore) ⊎ ((page : ℕ) × (opened ≡ Err (store_errors.Damaged page))) → A) →
+      IfErr answer (λ w. IsRefusal w → A)
+  opening-refused A refused =
+      subst (λ (a : Result T StopErr). IfErr a (λ w. IsRefusal w → A)) (sym is) (by_why why was)
+    where
+      by_why : (w : StoreErr) → opened ≡ Err w → IsRefusal (of_store w) → A
+      by_why store_errors.NotStore o refusal = refused (inl o)
+      by_why store_errors.Disk o refusal = absurd refusal
+      by_why (store_errors.Damaged page) o refusal = refused (inr (page, o))
+      by_why store_errors.Memory o refusal = absurd refusal
+
+-- want of memory refuses nothing
+pub wanting-refuses :
+    {T : Type 0} (A : Type 0) (answer : Result T StopErr) → answer ≡ Err errors.Memory → IfErr answer (λ w. IsRefusal w → A)
+wanting-refuses {T = T} A answer is =
+    subst (λ (a : Result T StopErr). IfErr a (λ w. IsRefusal w → A)) (sym is) (λ refusal. absurd refusal)
 
 -- ---- a body that stopped refuses nothing
 

@@ -16,7 +16,7 @@ use Rattle.dbpl_stored_run.proofs.Steps.{trapped-events, transacted-ended, trans
 use Rattle.dbpl_stored_run.proofs.Stores.{open-stands}
 use Rattle.dbpl_stored_run.proofs.Tying.{made-none, moments-commit}
 use Rattle.dbpl_stored_run.specs.Errors.{of_transaction}
-use Rattle.dbpl_stored_run.specs.Headline.{HasMade, LeavesTied, StandsFor}
+use Rattle.dbpl_stored_run.specs.Headline.{HasMade, HasMadeSome, LeavesTied, StandsFor}
 use Rattle.dbpl_stored_run.specs.Statements.{events_by, standing_by}
 use Rattle.dbpl_stored_run.specs.declared.body_err.BodyErr.{BodyErr}
 use Rattle.dbpl_stored_run.specs.declared.body_err.BodyErr.TheVariants as body_errors
@@ -25,6 +25,20 @@ use Rattle.dbpl_value.specs.declared.value.Value.{Value}
 use Rattle.dbpl_world.proofs.Moments.{moments_last}
 use Rattle.dbpl_world.specs.History.{History, State, now}
 use Rattle.dbpl_world.specs.Moments.{EachMoment}
+
+-- a commit that is done
+pub committed-made :
+    (changed later : Store) (database : List Bound) (h0 h1 : History) →
+    EachMoment (LeavesDatabase (IsEither (committed_of changed) (database_in changed)) (now h0)) h0 h1 →
+    IsOpen (now h1) later → committed_of later ≡ database_in changed →
+    HasMade (Commit (database_in changed) ∷ []) database (now h0) (now h1)
+committed-made changed later database h0 h1 run opened committed =
+    let here = moments_last (LeavesDatabase (IsEither (committed_of changed) (database_in changed)) (now h0)) h0 h1 run in
+    record {
+      printed = ap (λ (s : State). s.said) here.others ∙ sym (append-nil (now h0).said);
+      stored = λ log pages image torn.
+          open-stands (now h1) later opened log pages image torn ∙ ap (λ (d : List Bound). Some d) committed;
+    }
 
 -- the store has what the transaction makes of what stood there before
 abbrev pub IsDone : StoredProgram → Store → Store → Type 0
@@ -61,12 +75,15 @@ module _ (program : StoredProgram) (before changed : Store) (done : IsDone progr
         IsOpen (now h1) later → committed_of later ≡ database_in changed →
         HasMade (events_by program (Transact ∷ []) (database_in before)) (committed_of before) (now h0) (now h1)
     done-made later run opened committed =
-        let here = moments_last (LeavesDatabase (IsEither (committed_of changed) (database_in changed)) (now h0)) h0 h1 run in
-        subst (λ (events : List Event). HasMade events (committed_of before) (now h0) (now h1)) (sym events-done) (record {
-          printed = ap (λ (s : State). s.said) here.others ∙ sym (append-nil (now h0).said);
-          stored = λ log pages image torn.
-              open-stands (now h1) later opened log pages image torn ∙ ap (λ (d : List Bound). Some d) committed;
-        })
+        subst (λ (events : List Event). HasMade events (committed_of before) (now h0) (now h1)) (sym events-done)
+        (committed-made changed later (committed_of before) h0 h1 run opened committed)
+
+    pub done-some :
+        HasMadeSome (Commit (database_in changed) ∷ []) (committed_of changed) (now h0) (now h1) →
+        HasMadeSome (events_by program (Transact ∷ []) (database_in before)) (committed_of before) (now h0) (now h1)
+    done-some some =
+        subst (λ (d : List Bound). HasMadeSome (events_by program (Transact ∷ []) (database_in before)) d (now h0) (now h1)) kept
+        (subst (λ (events : List Event). HasMadeSome events (committed_of changed) (now h0) (now h1)) (sym events-done) some)
 
 -- ---- a transaction that was not done
 

@@ -1,11 +1,11 @@
 -- A run from the opening of the store to its end.
-use Rattle.std.proofs.Common.{◌≡◌, ◌∙◌, Bool, List, [], ◌++◌, None, IsTrue, true, false, ap, append-nil, subst, sym}
+use Rattle.std.proofs.Common.{◌≡◌, ◌∙◌, Bool, List, [], ◌++◌, None, IsTrue, true, false, ap, append-nil, refl, subst, sym}
 use Rattle.std.specs.Prelude.{MatchBool}
 use Rattle.dbpl_stored_program.proofs.Databases.{bound-is_there}
 use Rattle.dbpl_stored_program.proofs.Statements.{whole-comes_to}
 use Rattle.dbpl_core.specs.Events.{Event}
 use Rattle.dbpl_stored_program.specs.Meaning.{Outcome, Standing}
-use Rattle.dbpl_stored_program.specs.Whole.{comes_to, events_of, whole_run}
+use Rattle.dbpl_stored_program.specs.Whole.{comes_to, events_of, leaving, whole_run}
 use Rattle.dbpl_stored_program.specs.declared.stored_program.StoredProgram.{StoredProgram}
 use Rattle.dbpl_value.specs.Binding.{Binds, Differs}
 use Rattle.dbpl_log.specs.Records.{HasHead}
@@ -14,9 +14,9 @@ use Rattle.dbpl_store.specs.Stores.{IsBoundTo, IsOpen, committed_of, database_in
 use Rattle.dbpl_store.specs.declared.store.Store.{Store}
 use Rattle.dbpl_stored_run.proofs.Bindings.{stands-head, stands-one}
 use Rattle.dbpl_value.proofs.BoundTo.{binds-one, differs-not_binds}
-use Rattle.dbpl_stored_run.proofs.Tying.{made-behind, moments-behind, tied-still}
+use Rattle.dbpl_stored_run.proofs.Tying.{made-behind, moments-behind, some-behind, tied-still}
 use Rattle.dbpl_stored_run.specs.Answers.{HasOther, HasRun, ReadsAs}
-use Rattle.dbpl_stored_run.specs.Headline.{HasMade, LeavesTied, StandsFor}
+use Rattle.dbpl_stored_run.specs.Headline.{HasMade, HasMadeSome, LeavesTied, StandsFor}
 use Rattle.dbpl_stored_run.specs.Statements.{events_by, standing_by}
 use Rattle.dbpl_value.specs.declared.bound.Bound.{Bound}
 use Rattle.dbpl_value.specs.declared.field.Field.{Field}
@@ -38,6 +38,22 @@ pub moments-unbegun :
 moments-unbegun events database h0 h1 stood run =
     moments_weaken (LeavesOld (now h0)) (LeavesTied events database (now h0)) h0 h1
     (λ s leaves. tied-still events database (now h0) s stood leaves) run
+
+-- none of the events was made
+pub some-unbegun :
+    (events : List Event) (database : List Bound) (h0 h1 : History) → StandsFor database (now h0) →
+    EachMoment (LeavesOld (now h0)) h0 h1 → HasMadeSome events database (now h0) (now h1)
+some-unbegun events database h0 h1 stood run =
+    let here = moments_last (LeavesOld (now h0)) h0 h1 run in
+    record {
+      made = [];
+      rest = events;
+      prefix = refl;
+      has = record {
+        printed = unsaid h0 h1 run;
+        stored = λ log pages image torn. stood log pages (here.log log image) (here.pages pages torn);
+      };
+    }
 
 -- The store is open, and the program is bound to what it stood for.
 pub record HasBegun (program : StoredProgram) (tells : Bool) (store : Store) (h0 h1 : History) : Type 0 where
@@ -76,7 +92,9 @@ module _ (program : StoredProgram) (tells : Bool) (store : Store) (h0 h1 : Histo
       binds
 
   -- its whole run is what its statements come to
-  whole-is : whole_run program (database_in store) (now h0).input ≡ comes_to program program.body (database_in store)
+  whole-is :
+      whole_run program (database_in store) (now h0).input
+      ≡ leaving (now h0).input (comes_to program program.body (database_in store))
   whole-is =
       let there = bound-is_there program.relation (committed_of store) (database_in store) begins.binds in
       whole-comes_to program (database_in store) (now h0).input there.0 there.1
@@ -122,6 +140,18 @@ module _ (program : StoredProgram) (tells : Bool) (store : Store) (h0 h1 : Histo
         subst (λ (d : List Bound). HasMade (events_of program bound (now h0).input) d (now h0) (now h2)) (committed-is told database reads)
         (subst (λ (b : List Bound). HasMade (events_of program b (now h0).input) (committed_of store) (now h0) (now h2))
         (bound-is told database bound reads binds) (made-all told made))
+
+    pub begun-some :
+        (told : IsTrue tells) (database bound : List Bound) → ReadsAs database (now h0) → Binds program.relation database bound →
+        (IsTrue tells → IsOpen (now h1) store →
+        HasMadeSome (events_by program program.body (database_in store)) (committed_of store) (now h1) (now h2)) →
+        HasMadeSome (events_of program bound (now h0).input) database (now h0) (now h2)
+    begun-some told database bound reads binds some =
+        some-behind [] (events_of program bound (now h0).input) database (now h0) (now h1) (now h2)
+        (unsaid h0 h1 (begins.moments told))
+        (subst (λ (d : List Bound). HasMadeSome (events_of program bound (now h0).input) d (now h1) (now h2)) (committed-is told database reads)
+        (subst (λ (events : List Event). HasMadeSome events (committed_of store) (now h1) (now h2))
+        (events-are ∙ ap (λ (b : List Bound). events_of program b (now h0).input) (bound-is told database bound reads binds)) (some told (begins.opened told))))
 
     pub begun-stands :
         (told : IsTrue tells) (database bound : List Bound) → ReadsAs database (now h0) → Binds program.relation database bound →

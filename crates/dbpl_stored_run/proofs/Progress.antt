@@ -4,8 +4,8 @@ use Rattle.std.proofs.Math.Seq.{drop-cons}
 use Rattle.std.proofs.lemmas.List.{drop_all}
 use Rattle.dbpl_core.proofs.Events.{last-append}
 use Rattle.dbpl_core.specs.Events.{Event, last, prints}
-use Rattle.dbpl_stored_program.specs.Meaning.{Ended, Outcome, Trapped}
-use Rattle.dbpl_stored_program.specs.Whole.{after_events, comes_to}
+use Rattle.dbpl_stored_program.specs.Meaning.{Ended, Trapped}
+use Rattle.dbpl_stored_program.specs.Whole.{Course, after_events, comes_to}
 use Rattle.dbpl_stored_program.specs.declared.action.Action.{Action}
 use Rattle.dbpl_stored_program.specs.declared.stored_program.StoredProgram.{StoredProgram}
 use Rattle.dbpl_core.specs.declared.trap.Trap.{Trap}
@@ -13,8 +13,8 @@ use Rattle.dbpl_store.specs.Stores.{IsOpen, committed_of, database_in}
 use Rattle.dbpl_store.specs.declared.store.Store.{Store}
 use Rattle.dbpl_stored_run.proofs.Steps.{step-ended, step-front, step-trapped}
 use Rattle.dbpl_stored_run.proofs.Stores.{open-stands}
-use Rattle.dbpl_stored_run.proofs.Tying.{made-behind, moments-behind, moments-front, moments-still}
-use Rattle.dbpl_stored_run.specs.Headline.{HasMade, LeavesTied}
+use Rattle.dbpl_stored_run.proofs.Tying.{made-behind, moments-behind, moments-front, moments-still, some-all, some-behind, some-front}
+use Rattle.dbpl_stored_run.specs.Headline.{HasMade, HasMadeSome, LeavesTied}
 use Rattle.dbpl_stored_run.specs.Statements.{events_by, standing_by}
 use Rattle.dbpl_value.specs.declared.bound.Bound.{Bound}
 use Rattle.dbpl_world.specs.History.{History, now}
@@ -49,10 +49,10 @@ come-start program tells store h = record {
   };
 }
 
--- an outcome behind two lists of events
-twice : (first second : List Event) (outcome : Outcome) → after_events first (after_events second outcome) ≡ after_events (first ++ second) outcome
-twice first second outcome =
-    ap (λ (events : List Event). record { events = events; stands = outcome.stands }) (sym (append_assoc first second outcome.events))
+-- a course behind two lists of events
+twice : (first second : List Event) (course : Course) → after_events first (after_events second course) ≡ after_events (first ++ second) course
+twice first second course =
+    ap (λ (events : List Event). record { events = events; stands = course.stands }) (sym (append_assoc first second course.events))
 
 module _ (program : StoredProgram) (action : Action) (actions : List Action) (tells : Bool) (before store : Store) (h0 h : History)
     (come : HasCome program (action ∷ actions) tells before store h0 h) where
@@ -71,7 +71,7 @@ module _ (program : StoredProgram) (action : Action) (actions : List Action) (te
   come-on later h1 ended committed holds moments made stays = record {
     events = come.events ++ next;
     whole = come.whole
-        ∙ ap (λ (outcome : Outcome). after_events come.events outcome)
+        ∙ ap (λ (course : Course). after_events come.events course)
         (step-ended program (database_in store) action actions ended
         ∙ ap (λ (d : List Bound). after_events next (comes_to program actions d)) (sym holds))
         ∙ twice come.events next (comes_to program actions (database_in later));
@@ -93,7 +93,7 @@ module _ (program : StoredProgram) (action : Action) (actions : List Action) (te
   body-front =
       let front = step-front program (database_in store) action actions in (
         front.0,
-        ap (λ (outcome : Outcome). outcome.events) come.whole
+        ap (λ (course : Course). course.events) come.whole
             ∙ ap (λ (events : List Event). come.events ++ events) front.1
             ∙ sym (append_assoc come.events next front.0),
       )
@@ -110,18 +110,30 @@ module _ (program : StoredProgram) (action : Action) (actions : List Action) (te
       (moments-behind come.events next (committed_of before) h0 h h1 so_far.moments so_far.said
       (subst (λ (d : List Bound). EachMoment (LeavesTied next d (now h)) h h1) come.committed (moments told so_far.opened))))
 
+  -- wherever it stops with some of its events made, the run has made some of the body's
+  pub stopped-some :
+      (h1 : History) → IsTrue tells → IsOpen (now h0) before →
+      (IsTrue tells → IsOpen (now h) store → HasMadeSome next (committed_of store) (now h) (now h1)) →
+      HasMadeSome (events_by program program.body (database_in before)) (committed_of before) (now h0) (now h1)
+  stopped-some h1 told opened some =
+      let so_far = come.told told opened in
+      subst (λ (events : List Event). HasMadeSome events (committed_of before) (now h0) (now h1)) (sym body-front.1)
+      (some-front (come.events ++ next) body-front.0 (committed_of before) (now h0) (now h1)
+      (some-behind come.events next (committed_of before) (now h0) (now h) (now h1) so_far.said
+      (subst (λ (d : List Bound). HasMadeSome next d (now h) (now h1)) come.committed (some told so_far.opened))))
+
   -- ---- where the next statement traps
 
   trapped-whole :
       (trap : Trap) → standing_by program (action ∷ []) (database_in store) ≡ Trapped trap →
       comes_to program program.body (database_in before) ≡ after_events come.events (comes_to program (action ∷ []) (database_in store))
   trapped-whole trap trapped =
-      come.whole ∙ ap (λ (outcome : Outcome). after_events come.events outcome) (step-trapped program (database_in store) action actions trap trapped)
+      come.whole ∙ ap (λ (course : Course). after_events come.events course) (step-trapped program (database_in store) action actions trap trapped)
 
   pub trapped-so :
       (trap : Trap) → standing_by program (action ∷ []) (database_in store) ≡ Trapped trap →
       standing_by program program.body (database_in before) ≡ Trapped trap
-  trapped-so trap trapped = ap (λ (outcome : Outcome). outcome.stands) (trapped-whole trap trapped) ∙ trapped
+  trapped-so trap trapped = ap (λ (course : Course). course.stands) (trapped-whole trap trapped) ∙ trapped
 
   -- then the body has made all its events
   pub trapped-made :
@@ -132,7 +144,7 @@ module _ (program : StoredProgram) (action : Action) (actions : List Action) (te
   trapped-made h1 trap told opened trapped made =
       let so_far = come.told told opened in
       subst (λ (events : List Event). HasMade events (committed_of before) (now h0) (now h1))
-      (sym (ap (λ (outcome : Outcome). outcome.events) (trapped-whole trap trapped)))
+      (sym (ap (λ (course : Course). course.events) (trapped-whole trap trapped)))
       (made-behind come.events next (committed_of before) (now h0) (now h) (now h1) so_far.said
       (subst (λ (d : List Bound). HasMade next d (now h) (now h1)) come.committed (made told so_far.opened)))
 
@@ -141,10 +153,10 @@ module _ (program : StoredProgram) (action : Action) (actions : List Action) (te
 module _ (program : StoredProgram) (tells : Bool) (before store : Store) (h0 h : History)
     (come : HasCome program [] tells before store h0 h) where
   all-events : come.events ≡ events_by program program.body (database_in before)
-  all-events = sym (ap (λ (outcome : Outcome). outcome.events) come.whole ∙ append-nil come.events)
+  all-events = sym (ap (λ (course : Course). course.events) come.whole ∙ append-nil come.events)
 
   pub ended-so : standing_by program program.body (database_in before) ≡ Ended
-  ended-so = ap (λ (outcome : Outcome). outcome.stands) come.whole
+  ended-so = ap (λ (course : Course). course.stands) come.whole
 
   pub ended-moments :
       IsTrue tells → IsOpen (now h0) before →
@@ -163,6 +175,12 @@ module _ (program : StoredProgram) (tells : Bool) (before store : Store) (h0 h :
         stored = λ log pages image torn.
             open-stands (now h) store so_far.opened log pages image torn ∙ ap (λ (d : List Bound). Some d) come.committed;
       })
+
+  pub ended-some :
+      IsTrue tells → IsOpen (now h0) before →
+      HasMadeSome (events_by program program.body (database_in before)) (committed_of before) (now h0) (now h)
+  ended-some told opened =
+      some-all (events_by program program.body (database_in before)) (committed_of before) (now h0) (now h) (ended-made told opened)
 
 -- ---- by the index of the next statement
 

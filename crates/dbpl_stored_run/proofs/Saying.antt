@@ -4,7 +4,7 @@ use Rattle.std.proofs.lemmas.List.{map-append}
 use Rattle.dbpl_core.proofs.Events.{last-outs, prints-outs}
 use Rattle.dbpl_core.specs.Events.{Out}
 use Rattle.dbpl_stored_run.proofs.Tying.{changes-none}
-use Rattle.dbpl_stored_run.specs.Headline.{HasMade, LeavesTied, StandsFor}
+use Rattle.dbpl_stored_run.specs.Headline.{HasMade, HasMadeSome, LeavesTied, StandsFor}
 use Rattle.dbpl_stored_run.specs.Leaving.{ChangesStore}
 use Rattle.dbpl_value.specs.declared.bound.Bound.{Bound}
 use Rattle.dbpl_world.proofs.Replays.{now-more, replay-said}
@@ -69,6 +69,16 @@ said-made database old new said stood is =
       stored = λ log pages image torn.
           stood log pages image torn ∙ ap (λ (d : List Bound). Some d) (sym (last-outs said database));
     })
+
+pub said-some :
+    (database : List Bound) (old new : History) (all said rest : List ℕ) → StandsFor database (now old) →
+    all ≡ said ++ rest → new ≡ more old (map Said said) → HasMadeSome (map Out all) database (now old) (now new)
+said-some database old new all said rest stood split is = record {
+  made = map Out said;
+  rest = map Out rest;
+  prefix = ap (λ (bytes : List ℕ). map Out bytes) split ∙ map-append Out said rest;
+  has = said-made database old new said stood is;
+}
 
 pub said-disk :
     (old new : History) (said : List ℕ) → new ≡ more old (map Said said) → (now new).disk ≡ (now old).disk

@@ -2,8 +2,8 @@
 use Rattle.std.proofs.Common.{◌≡◌, ◌∙◌, ℕ, List, [], ◌∷◌, ◌++◌, Result, Ok, Err, ap, append-nil, map, refl, sym}
 use Rattle.dbpl_core.proofs.Events.{last-outs}
 use Rattle.dbpl_core.specs.Events.{Commit, Event, Out, last}
-use Rattle.dbpl_stored_program.specs.Meaning.{Ended, Outcome, Trapped, before_zero, with_named}
-use Rattle.dbpl_stored_program.specs.Whole.{after_events, by_transaction, comes_to, transacted_by}
+use Rattle.dbpl_stored_program.specs.Meaning.{Ended, Trapped, before_zero, with_named}
+use Rattle.dbpl_stored_program.specs.Whole.{Course, after_events, by_transaction, comes_to, transacted_by}
 use Rattle.dbpl_stored_program.specs.declared.action.Action.{Action}
 use Rattle.dbpl_stored_program.specs.declared.action.Action.TheVariants.{Transact, WriteLn, WriteString}
 use Rattle.dbpl_stored_program.specs.declared.stored_program.StoredProgram.{StoredProgram}
@@ -14,7 +14,7 @@ use Rattle.dbpl_value.specs.declared.value.Value.{Value}
 
 module _ (program : StoredProgram) (database : List Bound) where
   -- the transaction, and what follows it
-  abbrev transacts : List Action → Value → Outcome
+  abbrev transacts : List Action → Value → Course
   transacts actions relation =
       after_events (Commit (with_named program.relation.name relation database) ∷ [])
       (comes_to program actions (with_named program.relation.name relation database))

@@ -4,7 +4,7 @@ use Rattle.dbpl_core.proofs.Events.{last-append, prints-append}
 use Rattle.dbpl_core.specs.Events.{Commit, Event, last, prints}
 use Rattle.dbpl_log.specs.Changes.{ChangesLog, IsSynced, OnlySyncs}
 use Rattle.dbpl_store.specs.Stands.{IsEither, LeavesDatabase, LeavesOld, stands}
-use Rattle.dbpl_stored_run.specs.Headline.{HasMade, HasMadePrefix, LeavesTied, StandsFor}
+use Rattle.dbpl_stored_run.specs.Headline.{HasMade, HasMadePrefix, HasMadeSome, LeavesTied, StandsFor}
 use Rattle.dbpl_stored_run.specs.Leaving.{ChangesStore}
 use Rattle.dbpl_value.specs.declared.bound.Bound.{Bound}
 use Rattle.dbpl_world.proofs.Moments.{moments_last, moments_start, moments_then, moments_weaken}
@@ -120,6 +120,39 @@ moments-still events database h stood =
 
 pub made-none : (database : List Bound) (s : State) → StandsFor database s → HasMade [] database s s
 made-none database s stood = record { printed = sym (append-nil s.said); stored = stood }
+
+-- ---- some of a list is made
+
+pub some-all :
+    (events : List Event) (database : List Bound) (old s : State) → HasMade events database old s →
+    HasMadeSome events database old s
+some-all events database old s made =
+    record { made = events; rest = []; prefix = sym (append-nil events); has = made }
+
+pub some-none :
+    (events : List Event) (database : List Bound) (s : State) → StandsFor database s → HasMadeSome events database s s
+some-none events database s stood =
+    record { made = []; rest = events; prefix = refl; has = made-none database s stood }
+
+pub some-front :
+    (first second : List Event) (database : List Bound) (old s : State) → HasMadeSome first database old s →
+    HasMadeSome (first ++ second) database old s
+some-front first second database old s some = record {
+  made = some.made;
+  rest = some.rest ++ second;
+  prefix = ap (λ (events : List Event). events ++ second) some.prefix ∙ append_assoc some.made some.rest second;
+  has = some.has;
+}
+
+pub some-behind :
+    (first second : List Event) (database : List Bound) (old mid s : State) → mid.said ≡ old.said ++ prints first →
+    HasMadeSome second (last first database) mid s → HasMadeSome (first ++ second) database old s
+some-behind first second database old mid s came some = record {
+  made = first ++ some.made;
+  rest = some.rest;
+  prefix = ap (λ (events : List Event). first ++ events) some.prefix ∙ sym (append_assoc first some.made some.rest);
+  has = made-behind first some.made database old mid s came some.has;
+}
 
 -- ---- a commit
 

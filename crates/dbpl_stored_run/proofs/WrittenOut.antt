@@ -1,7 +1,6 @@
 -- What was printed is written out: nothing else happens then, and where it fails that is the answer.
 use Rattle.std.proofs.Common.{◌≡◌, ◌∙◌, ◌≤◌, ◌⊎◌, ℕ, inl, inr, List, Result, Ok, Err, ap, arith, refl, subst, sym}
 use Rattle.std.specs.Prelude.{IfErr, OnOk}
-use Rattle.dbpl_core.specs.declared.trap.Trap.{Trap}
 use Rattle.dbpl_log.specs.Changes.{ChangesLog}
 use Rattle.dbpl_store.specs.Stands.{IsEither, LeavesDatabase}
 use Rattle.dbpl_store.specs.Stores.{IsOpen}
@@ -118,19 +117,3 @@ run-where answer ran why is was (inr fine) = inr fine
 
 pub disk-fine : (old new : Counts) → OnlyDiskFaults old new → new.say_faults ≡ old.say_faults
 disk-fine old new only = ap (λ (counts : Counts). counts.say_faults) only.others
-
--- a commit is one of two faults where it isn't done
-pub fault-of-two :
-    {T : Type 0} (answer : Result T BodyErr) → IfErr answer (λ why. why ≡ body_errors.OutFault) →
-    IfErr answer (λ why. (why ≡ body_errors.DiskFault) ⊎ (why ≡ body_errors.OutFault))
-fault-of-two (Ok value) out = tt
-fault-of-two (Err why) out = inr out
-
-module _ {T : Type 0} (answer : Result T BodyErr)
-    (faults : IfErr answer (λ why. (why ≡ body_errors.DiskFault) ⊎ (why ≡ body_errors.OutFault))) where
-  pub fault-no_trap : {A : Type 0} (trap : Trap) → answer ≡ Err (body_errors.Trapped trap) → A
-  fault-no_trap {A = A} trap is = by_cases (subst (λ (a : Result T BodyErr). IfErr a (λ why. (why ≡ body_errors.DiskFault) ⊎ (why ≡ body_errors.OutFault))) is faults)
-    where
-      by_cases : (body_errors.Trapped trap ≡ body_errors.DiskFault) ⊎ (body_errors.Trapped trap ≡ body_errors.OutFault) → A
-      by_cases (inl e) = absurd cc
-      by_cases (inr e) = absurd cc

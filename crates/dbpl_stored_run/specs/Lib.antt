@@ -1,4 +1,5 @@
 pub mod Answers
+pub mod Between
 pub mod Errors
 pub mod Headline
 pub mod Leaving

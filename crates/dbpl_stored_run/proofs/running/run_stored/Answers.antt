@@ -5,10 +5,10 @@ use Rattle.dbpl_stored_program.specs.Meaning.{Ended, Trapped}
 use Rattle.dbpl_stored_program.specs.Whole.{events_of}
 use Rattle.dbpl_store.specs.Stores.{committed_of, database_in}
 use Rattle.dbpl_store.specs.declared.store_err.StoreErr.TheVariants as store_errors
-use Rattle.dbpl_stored_run.proofs.Answering.{counts-then, disk-counts, due-ended, due-stopped, due-unopened, due-wanting, every-err, handed, memory-only, no-ok, no-other_type, no-out_fault, no-refusal, no-trap, opening-failed, opening-three, opening-two, unrefused, was-damaged, was-disk_fault, was-fault, was-no_store, was-out_fault, was-trapped}
-use Rattle.dbpl_stored_run.proofs.Ending.{HasBegun, bound-begun, begun-agrees, begun-head, begun-made, begun-moments, begun-run, begun-sound, begun-stands, has-other, matched-true, moments-unbegun, other-unbound, reads-head, reads-of, reads-undamaged}
+use Rattle.dbpl_stored_run.proofs.Answering.{counts-then, disk-counts, due-ended, due-stopped, due-unopened, due-wanting, every-err, handed, memory-only, no-ok, no-other_type, no-out_fault, no-refusal, no-trap, opening-failed, opening-refused, opening-three, opening-two, stopped-fault, unrefused, wanting-refuses, was-damaged, was-disk_fault, was-fault, was-no_store, was-out_fault, was-trapped}
+use Rattle.dbpl_stored_run.proofs.Ending.{HasBegun, bound-begun, begun-agrees, begun-head, begun-made, begun-moments, begun-run, begun-some, begun-sound, begun-stands, has-other, matched-true, moments-unbegun, other-unbound, reads-head, reads-of, reads-undamaged, some-unbegun}
 use Rattle.dbpl_stored_run.proofs.Stores.{open-kept}
-use Rattle.dbpl_stored_run.proofs.Tying.{only-synced, only-then}
+use Rattle.dbpl_stored_run.proofs.Tying.{only-synced, only-then, some-all}
 use Rattle.dbpl_stored_run.proofs.WrittenOut.{disk-fine, fine-since, fine-where, run-where}
 use Rattle.dbpl_stored_run.specs.declared.stop_err.StopErr.TheVariants as errors
 use Rattle.dbpl_world.proofs.CountLaws.{rose_since}
@@ -103,6 +103,16 @@ returns-in_err-store-clause-out_fault g c =
 pub returns-in_err-store-clause-out_fault_where : goal.returns-in_err-store-clause-out_fault_where
 returns-in_err-store-clause-out_fault_where g c = inr (disk-fine _ _ c.open.ensures.counts)
 
+pub returns-in_err-store-clause-at_rest : goal.returns-in_err-store-clause-at_rest
+returns-in_err-store-clause-at_rest g c =
+    λ told database bound stood binds fine.
+    some-unbegun (events_of c.args.program.now bound (now (g.W.World.history c.args.world.now)).input) database (g.W.World.history c.args.world.now) (g.W.World.history c.open.new.world) stood (c.open.ensures.moments told)
+
+pub returns-in_err-store-clause-settled : goal.returns-in_err-store-clause-settled
+returns-in_err-store-clause-settled g c =
+    let is = handed c.from_residual.result _ c.from_residual.ensures.1 in
+    λ told. opening-refused c.from_residual.result c.open.result _ is c.in_err-store.was _ (c.open.ensures.settled told)
+
 pub returns-in_err-store-clause-refused : goal.returns-in_err-store-clause-refused
 returns-in_err-store-clause-refused g c =
     λ told. every-err c.from_residual.result (λ why refusal. c.open.ensures.moments told)
@@ -192,6 +202,16 @@ returns-in_err-is_bound-clause-out_fault g c =
 pub returns-in_err-is_bound-clause-out_fault_where : goal.returns-in_err-is_bound-clause-out_fault_where
 returns-in_err-is_bound-clause-out_fault_where g c = inr (disk-fine _ _ c.open.ensures.counts)
 
+pub returns-in_err-is_bound-clause-at_rest : goal.returns-in_err-is_bound-clause-at_rest
+returns-in_err-is_bound-clause-at_rest g c =
+    λ told database bound stood binds fine.
+    some-unbegun (events_of c.args.program.now bound (now (g.W.World.history c.args.world.now)).input) database (g.W.World.history c.args.world.now) (g.W.World.history c.open.new.world) stood (c.open.ensures.moments told)
+
+pub returns-in_err-is_bound-clause-settled : goal.returns-in_err-is_bound-clause-settled
+returns-in_err-is_bound-clause-settled g c =
+    let is = handed c.from_residual-in_err-is_bound.result _ c.from_residual-in_err-is_bound.ensures.1 in
+    λ told. wanting-refuses _ c.from_residual-in_err-is_bound.result is
+
 pub returns-in_err-is_bound-clause-refused : goal.returns-in_err-is_bound-clause-refused
 returns-in_err-is_bound-clause-refused g c =
     λ told. every-err c.from_residual-in_err-is_bound.result (λ why refusal. c.open.ensures.moments told)
@@ -239,6 +259,15 @@ returns-then-not-is_bound-clause-differs_where g c =
 
 pub returns-then-not-is_bound-clause-out_fault_where : goal.returns-then-not-is_bound-clause-out_fault_where
 returns-then-not-is_bound-clause-out_fault_where g c = inr (disk-fine _ _ c.open.ensures.counts)
+
+pub returns-then-not-is_bound-clause-at_rest : goal.returns-then-not-is_bound-clause-at_rest
+returns-then-not-is_bound-clause-at_rest g c =
+    λ told database bound stood binds fine.
+    some-unbegun (events_of c.args.program.now bound (now (g.W.World.history c.args.world.now)).input) database (g.W.World.history c.args.world.now) (g.W.World.history c.open.new.world) stood (c.open.ensures.moments told)
+
+pub returns-then-not-is_bound-clause-settled : goal.returns-then-not-is_bound-clause-settled
+returns-then-not-is_bound-clause-settled g c =
+    λ told refusal. c.in_ok-store.ensures.synced told
 
 pub returns-then-not-is_bound-clause-refused : goal.returns-then-not-is_bound-clause-refused
 returns-then-not-is_bound-clause-refused g c =
@@ -401,6 +430,27 @@ returns-in_err-run_body-clause-out_fault_where g c =
     run-where c.from_residual-in_err-run_body.result c.run_body.result _ is c.in_err-run_body.was
     (fine-since c.run_body.result _ _ _ (disk-fine _ _ c.open.ensures.counts) c.run_body.ensures.out_fault_where)
 
+pub returns-in_err-run_body-clause-at_rest : goal.returns-in_err-run_body-clause-at_rest
+returns-in_err-run_body-clause-at_rest g c =
+    let begins : HasBegun c.args.program.now g.W.World.tells c.bind.new.self (g.W.World.history c.args.world.now) (g.W.World.history c.open.new.world) =
+    bound-begun c.args.program.now g.W.World.tells c.in_ok-store.store c.bind.new.self (g.W.World.history c.args.world.now) (g.W.World.history c.open.new.world) c.in_ok-store.ensures.read
+    c.in_ok-store.ensures.database c.bind.ensures.committed
+    (matched-true c.args.program.now.relation c.in_ok-store.store c.bind.new.self c.in_ok-is_bound.is_bound (now (g.W.World.history c.args.world.now)) c.in_ok-is_bound.ensures.bound c.if-not-is_bound.false).0
+    (λ told. open-kept (now (g.W.World.history c.open.new.world)) (now (g.W.World.history c.open.new.world)) c.in_ok-store.store c.bind.new.self refl c.bind.ensures.log c.bind.ensures.committed
+    (c.in_ok-store.ensures.«open» told))
+    c.open.ensures.moments
+    in
+    let is = handed c.from_residual-in_err-run_body.result _ c.from_residual-in_err-run_body.ensures.1 in
+    λ told database bound stood binds fine.
+    begun-some c.args.program.now g.W.World.tells c.bind.new.self (g.W.World.history c.args.world.now) (g.W.World.history c.open.new.world) begins (g.W.World.history c.run_body.new.world) told database bound
+    (reads-of database (now (g.W.World.history c.args.world.now)) (g.met.W.World.reads_an_image c.args.world.now told) stood) binds
+    (λ t o. c.run_body.ensures.at_rest t o (λ fault. fine (stopped-fault c.from_residual-in_err-run_body.result _ is c.run_body.result c.in_err-run_body.was fault)))
+
+pub returns-in_err-run_body-clause-settled : goal.returns-in_err-run_body-clause-settled
+returns-in_err-run_body-clause-settled g c =
+    let is = handed c.from_residual-in_err-run_body.result _ c.from_residual-in_err-run_body.ensures.1 in
+    λ told. unrefused _ c.from_residual-in_err-run_body.result _ is
+
 pub returns-in_err-run_body-clause-refused : goal.returns-in_err-run_body-clause-refused
 returns-in_err-run_body-clause-refused g c =
     let is = handed c.from_residual-in_err-run_body.result _ c.from_residual-in_err-run_body.ensures.1 in
@@ -514,6 +564,21 @@ returns-clause-differs_where g c =
     c.open.ensures.moments
     in
     λ told database reads differs. absurd (begun-agrees c.args.program.now g.W.World.tells c.bind.new.self (g.W.World.history c.args.world.now) (g.W.World.history c.open.new.world) begins told database reads differs)
+
+pub returns-clause-at_rest : goal.returns-clause-at_rest
+returns-clause-at_rest g c =
+    let begins : HasBegun c.args.program.now g.W.World.tells c.bind.new.self (g.W.World.history c.args.world.now) (g.W.World.history c.open.new.world) =
+    bound-begun c.args.program.now g.W.World.tells c.in_ok-store.store c.bind.new.self (g.W.World.history c.args.world.now) (g.W.World.history c.open.new.world) c.in_ok-store.ensures.read
+    c.in_ok-store.ensures.database c.bind.ensures.committed
+    (matched-true c.args.program.now.relation c.in_ok-store.store c.bind.new.self c.in_ok-is_bound.is_bound (now (g.W.World.history c.args.world.now)) c.in_ok-is_bound.ensures.bound c.if-not-is_bound.false).0
+    (λ told. open-kept (now (g.W.World.history c.open.new.world)) (now (g.W.World.history c.open.new.world)) c.in_ok-store.store c.bind.new.self refl c.bind.ensures.log c.bind.ensures.committed
+    (c.in_ok-store.ensures.«open» told))
+    c.open.ensures.moments
+    in
+    λ told database bound stood binds fine.
+    some-all (events_of c.args.program.now bound (now (g.W.World.history c.args.world.now)).input) database (now (g.W.World.history c.args.world.now)) (now (g.W.World.history c.run_body.new.world))
+    (begun-made c.args.program.now g.W.World.tells c.bind.new.self (g.W.World.history c.args.world.now) (g.W.World.history c.open.new.world) begins (g.W.World.history c.run_body.new.world) told database bound
+    (reads-of database (now (g.W.World.history c.args.world.now)) (g.met.W.World.reads_an_image c.args.world.now told) stood) binds c.in_ok-run_body.ensures.made)
 
 pub returns-clause-unbound : goal.returns-clause-unbound
 returns-clause-unbound g c =

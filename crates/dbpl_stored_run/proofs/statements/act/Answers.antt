@@ -2,7 +2,7 @@
 use Rattle.std.proofs.Common.{◌∙◌, ap, refl}
 use Rattle.dbpl_stored_program.specs.Meaning.{before_zero}
 use Rattle.dbpl_store.specs.Stores.{committed_of, database_in}
-use Rattle.dbpl_stored_run.proofs.Acting.{printed-last, printed-made, printed-moments, printed-open, prints-line, prints-text}
+use Rattle.dbpl_stored_run.proofs.Acting.{printed-last, printed-made, printed-moments, printed-open, printed-some, prints-line, prints-text}
 use Rattle.dbpl_stored_run.proofs.Answering.{after-ok, on-this, printed-no_disk_fault, printed-no_trap, say-counts}
 use Rattle.dbpl_stored_run.proofs.WrittenOut.{print-where}
 use Rattle.dbpl_stored_run.proofs.statements.act.Goals as goal
@@ -31,6 +31,12 @@ returns-in-WriteLn-clause-trapped g c =
 pub returns-in-WriteLn-clause-made_trapped : goal.returns-in-WriteLn-clause-made_trapped
 returns-in-WriteLn-clause-made_trapped g c =
     λ told opened trap is. printed-no_trap c.print.result c.print.ensures.err trap is
+
+pub returns-in-WriteLn-clause-at_rest : goal.returns-in-WriteLn-clause-at_rest
+returns-in-WriteLn-clause-at_rest g c =
+    let prints = prints-line c.args.program.now c.args.action.now _ c.in-WriteLn.is refl in
+    λ told opened fine.
+    printed-some c.args.program.now c.args.action.now _ prints c.args.store.now (g.W.World.history c.args.world.now) (g.W.World.history c.print.new.world) opened (c.print.ensures.at_rest told)
 
 pub returns-in-WriteLn-clause-opened : goal.returns-in-WriteLn-clause-opened
 returns-in-WriteLn-clause-opened g c =
@@ -93,6 +99,12 @@ pub returns-in-WriteString-clause-made_trapped : goal.returns-in-WriteString-cla
 returns-in-WriteString-clause-made_trapped g c =
     λ told opened trap is. printed-no_trap c.print-in-WriteString.result c.print-in-WriteString.ensures.err trap is
 
+pub returns-in-WriteString-clause-at_rest : goal.returns-in-WriteString-clause-at_rest
+returns-in-WriteString-clause-at_rest g c =
+    let prints = prints-text c.args.program.now c.args.action.now _ c.before_zero.result.now c.in-WriteString.is (c.before_zero.ensures ∙ ap before_zero c.as_bytes.ensures) in
+    λ told opened fine.
+    printed-some c.args.program.now c.args.action.now c.before_zero.result.now prints c.args.store.now (g.W.World.history c.args.world.now) (g.W.World.history c.print-in-WriteString.new.world) opened (c.print-in-WriteString.ensures.at_rest told)
+
 pub returns-in-WriteString-clause-opened : goal.returns-in-WriteString-clause-opened
 returns-in-WriteString-clause-opened g c =
     let prints = prints-text c.args.program.now c.args.action.now _ c.before_zero.result.now c.in-WriteString.is (c.before_zero.ensures ∙ ap before_zero c.as_bytes.ensures) in
@@ -143,6 +155,9 @@ returns-in-Transact-clause-trapped g c = rw c.in-Transact.is c.transact.ensures.
 
 pub returns-in-Transact-clause-made_trapped : goal.returns-in-Transact-clause-made_trapped
 returns-in-Transact-clause-made_trapped g c = rw c.in-Transact.is c.transact.ensures.made_trapped
+
+pub returns-in-Transact-clause-at_rest : goal.returns-in-Transact-clause-at_rest
+returns-in-Transact-clause-at_rest g c = rw c.in-Transact.is c.transact.ensures.at_rest
 
 pub returns-in-Transact-clause-opened : goal.returns-in-Transact-clause-opened
 returns-in-Transact-clause-opened g c = c.transact.ensures.opened

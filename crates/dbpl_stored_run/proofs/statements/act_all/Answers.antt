@@ -2,7 +2,7 @@
 use Rattle.std.proofs.Common.{◌+◌, ◌∷◌, ◌∙◌, List, drop, inr, refl, subst, sym}
 use Rattle.dbpl_stored_program.specs.declared.action.Action.{Action}
 use Rattle.dbpl_stored_run.proofs.Answering.{counts-same, counts-then, handed, no-ok}
-use Rattle.dbpl_stored_run.proofs.Progress.{HasCome, come-on, come-start, ended-made, ended-moments, ended-so, from-index, past-end, stopped-moments, trapped-made, trapped-so}
+use Rattle.dbpl_stored_run.proofs.Progress.{HasCome, come-on, come-start, ended-made, ended-moments, ended-so, ended-some, from-index, past-end, stopped-moments, stopped-some, trapped-made, trapped-so}
 use Rattle.dbpl_stored_run.proofs.Tying.{only-none, only-then}
 use Rattle.dbpl_stored_run.proofs.WrittenOut.{fine-since, fine-where}
 use Rattle.dbpl_world.proofs.CountLaws.{rose_since}
@@ -86,6 +86,21 @@ returns-in_err-act-clause-made_trapped g c = λ told opened trap is.
     c.loop-action.store h0 h come (g.W.World.history c.act.new.world) trap told opened (c.act.ensures.trapped trap (same ∙ is))
     (λ t o. c.act.ensures.made_trapped t o trap (same ∙ is))
 
+pub returns-in_err-act-clause-at_rest : goal.returns-in_err-act-clause-at_rest
+returns-in_err-act-clause-at_rest g c = λ told opened fine.
+    let items = c.as_slice-action-items.result.now in
+    let i = c.loop-action.action-index in
+    let h0 = g.W.World.history c.args.world.now in
+    let h = g.W.World.history c.loop-action.world in
+    let come : HasCome c.args.program.now (c.action-item.result ∷ drop (i + 1) items) g.W.World.tells c.args.store.now c.loop-action.store h0 h =
+    subst (λ (actions : List Action). HasCome c.args.program.now actions g.W.World.tells c.args.store.now c.loop-action.store h0 h)
+    (from-index items i c.action-item.result c.loop-action-test.true c.action-item.is) c.loop-action.invariant.come
+    in
+    let same = c.in_err-act.was ∙ sym (handed c.from_residual.result _ c.from_residual.ensures.1) in
+    stopped-some c.args.program.now c.action-item.result (drop (i + 1) items) g.W.World.tells c.args.store.now
+    c.loop-action.store h0 h come (g.W.World.history c.act.new.world) told opened
+    (λ t o. c.act.ensures.at_rest t o (λ is. fine (sym same ∙ is)))
+
 pub returns-in_err-act-clause-only : goal.returns-in_err-act-clause-only
 returns-in_err-act-clause-only g c = λ told.
     only-then (g.W.World.history c.args.world.now) (g.W.World.history c.loop-action.world) (g.W.World.history c.act.new.world)
@@ -106,6 +121,15 @@ returns-clause-moments g c = λ told opened.
 pub returns-clause-made : goal.returns-clause-made
 returns-clause-made g c = λ told opened.
     ended-made c.args.program.now g.W.World.tells c.args.store.now c.loop-action.store (g.W.World.history c.args.world.now)
+    (g.W.World.history c.loop-action.world)
+    (subst (λ (actions : List Action). HasCome c.args.program.now actions g.W.World.tells c.args.store.now c.loop-action.store
+    (g.W.World.history c.args.world.now) (g.W.World.history c.loop-action.world))
+    (past-end c.as_slice-action-items.result.now c.loop-action.action-index c.loop-action-test.false) c.loop-action.invariant.come)
+    told opened
+
+pub returns-clause-at_rest : goal.returns-clause-at_rest
+returns-clause-at_rest g c = λ told opened fine.
+    ended-some c.args.program.now g.W.World.tells c.args.store.now c.loop-action.store (g.W.World.history c.args.world.now)
     (g.W.World.history c.loop-action.world)
     (subst (λ (actions : List Action). HasCome c.args.program.now actions g.W.World.tells c.args.store.now c.loop-action.store
     (g.W.World.history c.args.world.now) (g.W.World.history c.loop-action.world))

@@ -4,7 +4,7 @@ use Rattle.std.specs.Prelude.{OnOk}
 use Rattle.dbpl_store.specs.Stores.{committed_of, database_in}
 use Rattle.dbpl_stored_run.proofs.Answering.{counts-then, say-counts}
 use Rattle.dbpl_stored_run.proofs.WrittenOut.{end-fault, end-ok, end-other, end-where}
-use Rattle.dbpl_stored_run.specs.Headline.{HasMade, LeavesTied}
+use Rattle.dbpl_stored_run.specs.Headline.{HasMade, HasMadeSome, LeavesTied}
 use Rattle.dbpl_stored_run.specs.Leaving.{ChangesStore}
 use Rattle.dbpl_stored_run.specs.Statements.{events_by}
 use Rattle.dbpl_stored_run.specs.declared.body_err.BodyErr.TheVariants as body_errors
@@ -45,6 +45,14 @@ returns-clause-made_trapped g c = λ told opened trap is.
     (sym (c.written_out.ensures.unchanged told))
     (c.act_all-went.ensures.made_trapped told opened trap
     (end-other c.act_all-went.result c.written_out.result _ _ c.written_out.ensures.answer (body_errors.Trapped trap) (λ e. absurd cc) is))
+
+pub returns-clause-at_rest : goal.returns-clause-at_rest
+returns-clause-at_rest g c = λ told opened fine.
+    let h0 = g.W.World.history c.args.world.now in
+    let events = events_by c.args.program.now c.args.program.now.body (database_in c.args.store.now) in
+    subst (λ (h : History). HasMadeSome events (committed_of c.args.store.now) (now h0) (now h))
+    (sym (c.written_out.ensures.unchanged told))
+    (c.act_all-went.ensures.at_rest told opened (λ is. fine (c.written_out.ensures.disk_fault is)))
 
 pub returns-clause-only : goal.returns-clause-only
 returns-clause-only g c = λ told.

@@ -6,9 +6,8 @@ use Rattle.dbpl_store.specs.Stores.{committed_of, database_in}
 use Rattle.dbpl_stored_run.proofs.Answering.{after-ok, both-ok, counts-same, handed, no-ok}
 use Rattle.dbpl_stored_run.proofs.Steps.{trapped-stands}
 use Rattle.dbpl_stored_run.proofs.Stores.{open-kept, open-stands, still-bound}
-use Rattle.dbpl_stored_run.proofs.Commits.{done-ended, done-last, done-made, done-moments, trapped-made, was-no_disk_fault, was-no_out_fault, was-trap}
-use Rattle.dbpl_stored_run.proofs.WrittenOut.{fault-no_trap}
-use Rattle.dbpl_stored_run.proofs.Tying.{moments-still, only-log, only-none}
+use Rattle.dbpl_stored_run.proofs.Commits.{done-ended, done-last, done-made, done-moments, done-some, trapped-made, was-no_disk_fault, was-no_out_fault, was-trap}
+use Rattle.dbpl_stored_run.proofs.Tying.{moments-still, only-log, only-none, some-none}
 use Rattle.dbpl_stored_run.specs.Statements.{events_by}
 use Rattle.dbpl_world.specs.History.{now}
 use Rattle.dbpl_stored_run.proofs.transacting.transact.Goals as goal
@@ -33,6 +32,12 @@ returns-in_err-change-clause-made_trapped g c = λ told opened trap is.
     let why = was-trap c.from_residual.result _ (handed c.from_residual.result _ c.from_residual.ensures.1) trap is in
     trapped-made c.args.program.now c.args.store.now trap (now h)
     (c.change.ensures.trap trap (c.in_err-change.was ∙ ap (λ e. Err e) why)) (open-stands (now h) c.args.store.now opened)
+
+pub returns-in_err-change-clause-at_rest : goal.returns-in_err-change-clause-at_rest
+returns-in_err-change-clause-at_rest g c = λ told opened fine.
+    let h = g.W.World.history c.args.world.now in
+    some-none (events_by c.args.program.now (Transact ∷ []) (database_in c.args.store.now)) (committed_of c.args.store.now) (now h)
+    (open-stands (now h) c.args.store.now opened)
 
 pub returns-in_err-change-clause-unwritten : goal.returns-in_err-change-clause-unwritten
 returns-in_err-change-clause-unwritten g c = λ told is. refl
@@ -102,10 +107,19 @@ returns-clause-ended g c =
     after-ok c.commit.result (done-ended c.args.program.now c.args.store.now c.change.new.store c.in_ok-change.ensures.ok)
 
 pub returns-clause-trapped : goal.returns-clause-trapped
-returns-clause-trapped g c = λ trap is. fault-no_trap c.commit.result c.commit.ensures.err trap is
+returns-clause-trapped g c = λ trap is. absurd (c.commit.ensures.untrapped trap is)
 
 pub returns-clause-made_trapped : goal.returns-clause-made_trapped
-returns-clause-made_trapped g c = λ told opened trap is. fault-no_trap c.commit.result c.commit.ensures.err trap is
+returns-clause-made_trapped g c = λ told opened trap is. absurd (c.commit.ensures.untrapped trap is)
+
+pub returns-clause-at_rest : goal.returns-clause-at_rest
+returns-clause-at_rest g c = λ told opened fine.
+    let h = g.W.World.history c.args.world.now in
+    done-some c.args.program.now c.args.store.now c.change.new.store c.in_ok-change.ensures.ok h
+    (g.W.World.history c.commit.new.world) c.change.ensures.committed
+    (c.commit.ensures.at_rest told
+    (open-kept (now h) (now h) c.args.store.now c.change.new.store refl c.change.ensures.log c.change.ensures.committed opened)
+    fine)
 
 pub returns-clause-opened : goal.returns-clause-opened
 returns-clause-opened g c = λ told opened.
