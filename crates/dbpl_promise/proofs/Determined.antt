@@ -1,5 +1,5 @@
 -- Where all is told, a stage does one thing: it passes with one value, or it is refused by one answer.
-use Rattle.std.proofs.Common.{◌≡◌, ◌⊎◌, ◌∙◌, inl, inr, subst, sym}
+use Rattle.std.proofs.Common.{◌≡◌, ◌∙◌, inl, inr, subst, sym}
 use Rattle.dbpl_base.specs.declared.status.Status.{Status}
 use Rattle.dbpl_promise.specs.Stages.{IsDetermined, IsDue, PassesTo, Stage, gives, ◌>>=◌}
 use Rattle.dbpl_promise.specs.Work.{Work}

@@ -1,16 +1,20 @@
 -- A command whose first stages were passed, and that then kept the promise of the others, kept the promise of all.
-use Rattle.std.proofs.Common.{◌≡◌, ◌⊎◌, IsTrue, ap, inl, inr, subst}
+use Rattle.std.proofs.Common.{◌≡◌, ◌⊎◌, ℕ, List, IsTrue, inl, inr, subst}
 use Rattle.dbpl_base.specs.declared.status.Status.{Status}
 use Rattle.dbpl_base.specs.declared.status.Status.TheVariants as status
-use Rattle.dbpl_promise.specs.Promises.{Answered}
-use Rattle.dbpl_promise.specs.Running.{MayRun, ended, running}
+use Rattle.dbpl_promise.proofs.Leaving.{alone_more}
+use Rattle.dbpl_promise.specs.Promises.{Answered, LeavesAlone}
+use Rattle.dbpl_promise.specs.Refusals.{is_refusal}
+use Rattle.dbpl_promise.specs.Running.{EndsRun, MayRun, RunsNothing, ended, running}
 use Rattle.dbpl_promise.specs.Runs.{Run}
 use Rattle.dbpl_promise.specs.Stages.{IsDetermined, IsDue, Stage, ◌>>=◌}
 use Rattle.dbpl_promise.specs.Work.{IsTold, Work}
-use Rattle.dbpl_world.specs.History.{State}
+use Rattle.dbpl_world.proofs.Moments.{moments_weaken}
+use Rattle.dbpl_world.specs.History.{State, now}
 
 module _ {A : Type 0} (stage : Stage A) (next : A → Stage Run) (work : Work) (answer : Status) (a : A)
-    (passes : stage.passes work a) (first : IsTold work → IsDetermined stage work) where
+    (passes : stage.passes work a) (first : IsTold work → IsDetermined stage work)
+    (unmounted : (name : List ℕ) → stage.mounts work name → ⊥) where
   due : IsDue (next a >>= ended) work answer → IsDue ((stage >>= next) >>= ended) work answer
   due (inl (inl refuses)) = inl (inl (inr (a, passes, refuses)))
   due (inl (inr ends)) = absurd ends.2
@@ -20,9 +24,28 @@ module _ {A : Type 0} (stage : Stage A) (next : A → Stage Run) (work : Work) (
   fails (inl before) = inl (inr (a, passes, before))
   fails (inr within) = inr (within.0, (a, passes, within.1), within.2)
 
+  answers : IsDue (next a >>= ended) work answer ⊎ ((next a >>= ended).fails work answer ⊎ (answer ≡ status.Memory)) →
+      IsDue ((stage >>= next) >>= ended) work answer ⊎ (((stage >>= next) >>= ended).fails work answer ⊎ (answer ≡ status.Memory))
+  answers (inl is) = inl (due is)
+  answers (inr (inl fault)) = inr (inl (fails fault))
+  answers (inr (inr memory)) = inr (inr memory)
+
+  mounts : (name : List ℕ) → (next a >>= ended).mounts work name → ((stage >>= next) >>= ended).mounts work name
+  mounts name (inl before) = inl (inr (a, passes, before))
+  mounts name (inr within) = absurd within.2
+
   -- what the next ones pass with is what all pass with
   behind : IsTold work → (run : Run) → (stage >>= next).passes work run → (next a).passes work run
   behind told run all = subst (λ x. (next x).passes work run) ((first told).one all.0 a all.1 passes) all.2
+
+  -- a refusal of all is one of the next ones
+  refused : IsTold work → (stage >>= next).refuses work answer → (next a).refuses work answer
+  refused told (inl refuses) = absurd ((first told).apart a answer passes refuses)
+  refused told (inr then) = subst (λ x. (next x).refuses work answer) ((first told).one then.0 a then.1 passes) then.2
+
+  mounted : IsTold work → (name : List ℕ) → (stage >>= next).mounts work name → (next a).mounts work name
+  mounted told name (inl here) = absurd (unmounted name here)
+  mounted told name (inr then) = subst (λ x. (next x).mounts work name) ((first told).one then.0 a then.1 passes) then.2
 
   may : (s : State) → MayRun (next a) work answer s → MayRun (stage >>= next) work answer s
   may s m = record {
@@ -31,7 +54,28 @@ module _ {A : Type 0} (stage : Stage A) (next : A → Stage Run) (work : Work) (
     input = m.input;
   }
     where
-      nothing : ((run : Run) → (stage >>= next).passes work run → ⊥) ⊎ (answer ≡ status.SourceFault) →
-          ((run : Run) → (next a).passes work run → ⊥) ⊎ (answer ≡ status.SourceFault)
+      nothing : RunsNothing (stage >>= next) work ⊎ IsTrue (is_refusal answer) → RunsNothing (next a) work ⊎ IsTrue (is_refusal answer)
       nothing (inl none) = inl (λ run then. none run (a, passes, then))
-      nothing (inr fault) = inr fault
+      nothing (inr refusal) = inr refusal
+
+  ends : (s : State) → EndsRun (next a) work answer s → EndsRun (stage >>= next) work answer s
+  ends s e = record {
+    whole = λ told run all tells. e.whole told run (behind told run all) tells;
+    at_rest = λ told run all stood fine. e.at_rest told run (behind told run all) stood fine;
+    settled = λ told refuses name may. e.settled told (refused told refuses) name (mounted told name may);
+  }
+
+  pub in_front : Answered (running (next a)) work answer → Answered (running (stage >>= next)) work answer
+  in_front did = record {
+    answers = answers did.answers;
+    moments = λ tells.
+        moments_weaken (MayRun (next a) work answer) (MayRun (stage >>= next) work answer) work.before work.after may
+        (did.moments tells);
+    end = λ tells. ends (now work.after) (did.end tells);
+    only = λ tells.
+        moments_weaken (LeavesAlone ((next a >>= ended).mounts work) (now work.before))
+        (LeavesAlone (((stage >>= next) >>= ended).mounts work) (now work.before)) work.before work.after
+        (alone_more ((next a >>= ended).mounts work) (((stage >>= next) >>= ended).mounts work) mounts (now work.before))
+        (did.only tells);
+    prints = did.prints;
+  }

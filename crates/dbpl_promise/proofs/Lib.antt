@@ -1,2 +1,10 @@
+pub mod AnswerKinds
 pub mod Determined
+pub mod Headline
 pub mod InFront
+pub mod Leaving
+pub mod Mounted
+pub mod Stages
+pub mod Stopped
+pub mod Together
+pub mod Unasked

@@ -2,6 +2,7 @@ pub mod Faults
 pub mod Leaving
 pub mod Opening
 pub mod Promises
+pub mod Refusals
 pub mod Running
 pub mod Runs
 pub mod Stages

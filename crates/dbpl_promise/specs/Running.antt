@@ -8,6 +8,7 @@ use Rattle.dbpl_promise.specs.Faults.{disk_faults, out_faults}
 use Rattle.dbpl_promise.specs.Leaving.{IsUntouched, made_sure}
 use Rattle.dbpl_promise.specs.Opening.{store_before}
 use Rattle.dbpl_promise.specs.Promises.{Promise}
+use Rattle.dbpl_promise.specs.Refusals.{is_refusal}
 use Rattle.dbpl_promise.specs.Runs.{HasMade, IsTied, IsWhole, Leaves, Run, StoodFor}
 use Rattle.dbpl_promise.specs.Stages.{Never, Stage, ◌>>=◌}
 use Rattle.dbpl_promise.specs.Work.{IsTold, Work}
@@ -42,8 +43,8 @@ pub record MayRun (stage : Stage Run) (work : Work) (answer : Status) (s : State
   -- Some prefix of the events was made.
   pub tied : IsTold work → (run : Run) → stage.passes work run → StoodFor run (now work.before) →
       Leaves run.store (IsTied run (now work.before)) s
-  -- Where nothing is run, or a file couldn't be read, all is left as it was, whatever the answer.
-  pub idle : RunsNothing stage work ⊎ (answer ≡ status.SourceFault) → IsUntouched (now work.before) s
+  -- Where nothing is run all is left as it was, whatever the answer, and so it is by a refusal.
+  pub idle : RunsNothing stage work ⊎ IsTrue (is_refusal answer) → IsUntouched (now work.before) s
   -- So far no run takes input.
   pub input : s.input ≡ (now work.before).input
 

@@ -1,4 +1,3 @@
 pub mod Fetching
 pub mod Sources
 pub mod Texts
-pub mod Work

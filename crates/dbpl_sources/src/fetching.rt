@@ -47,7 +47,9 @@ pub fn sources<S: Shelf>(
     let mut texts = Vec::new(alloc);
     for file in files {
         let text = source(alloc, shelf, file)?;
-        texts.push(text)?;
+        let Ok(()) = texts.push(text) else {
+            return Err(Status::Memory);
+        };
     }
     Ok(texts)
 }
