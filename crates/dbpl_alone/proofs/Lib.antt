@@ -1,13 +1,11 @@
-pub mod Causes
 pub mod FormLaw
 pub mod FoundLaw
 pub mod MeaningLaws
 pub mod ModuleLaw
-pub mod Moments
-pub mod NoteLaw
 pub mod PlacedLaw
 pub mod Printed
-pub mod Rows
+pub mod Printing
+pub mod Stages
 pub mod Tests
 pub mod TurnLaw
 pub mod UnitLaw

@@ -1,5 +1,5 @@
 -- THE command `run` of one file, without a store.
-use Rattle.std.specs.Prelude.{ℕ, List, [], ◌∷◌, None}
+use Rattle.std.specs.Prelude.{ℕ, List, [], None}
 use Rattle.dbpl_alone.specs.Meaning.{module_meaning}
 use Rattle.dbpl_alone.specs.Modules.{IsModule, IsRefused}
 use Rattle.dbpl_alone.specs.declared.program.Program.{Program}

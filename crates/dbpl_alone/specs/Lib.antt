@@ -1,9 +1,7 @@
 pub mod Answers
 pub mod Command
-pub mod Headline
 pub mod Meaning
 pub mod Modules
 pub mod Program
-pub mod RunsAlone
 pub mod Small
 pub mod Units

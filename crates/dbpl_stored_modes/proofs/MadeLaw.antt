@@ -1,116 +1,84 @@
--- Why the command that makes a store answers so.
-use Rattle.std.proofs.Common.{◌≡◌, ◌∙◌, ◌⊎◌, ◌≤◌, ◌<◌, ℕ, List, [], ◌∷◌, Some, Result, Ok, Err, OnOk, IsTrue, ap, arith, inl, inr, length, refl, subst, sym}
+-- Why the command that makes a store keeps its promise: from what making one of the mounted store says.
+use Rattle.std.proofs.Common.{◌≡◌, ◌∙◌, ◌⊎◌, ◌≤◌, ◌<◌, ℕ, Bool, List, [], ◌∷◌, Some, Result, Ok, Err, OnOk, IsTrue, ap, arith, inl, inr, length, refl, subst, sym}
 use Rattle.dbpl_base.specs.declared.status.Status.{Status}
 use Rattle.dbpl_base.specs.declared.status.Status.TheVariants as status
 use Rattle.dbpl_log.specs.Beginning.{IsForeign, IsFree, begun}
-use Rattle.dbpl_log.specs.Changes.{WritesLog}
+use Rattle.dbpl_log.specs.Changes.{IsSynced, WritesLog}
 use Rattle.dbpl_log.specs.Records.{HasHead}
 use Rattle.dbpl_log.specs.declared.create_err.CreateErr.{CreateErr}
 use Rattle.dbpl_log.specs.declared.create_err.CreateErr.TheVariants as errors
-use Rattle.dbpl_sources.specs.Work.{Work}
+use Rattle.dbpl_promise.proofs.Determined.{given, joined}
+use Rattle.dbpl_promise.proofs.Leaving.{alone_here, untouched_here}
+use Rattle.dbpl_promise.proofs.Mounted.{SinceMounted, alone_there, moments_mounted, mounted_disk, mounted_input, mounted_said, mounted_state, only_disk, since_mounted, stands_there, untouched_there}
+use Rattle.dbpl_promise.proofs.Stopped.{IsStill, still_moments}
+use Rattle.dbpl_promise.proofs.Together.{moments_all, moments_both}
+use Rattle.dbpl_promise.specs.Leaving.{IsUntouched}
+use Rattle.dbpl_promise.specs.Opening.{store_before}
+use Rattle.dbpl_promise.specs.Promises.{Answered, LeavesAlone}
+use Rattle.dbpl_promise.specs.Stages.{IsDetermined, IsDue, gives}
+use Rattle.dbpl_promise.specs.Work.{Work}
 use Rattle.dbpl_store.specs.Beginning.{LeavesBegun, MayBecomeEmpty, StandsEmpty}
-use Rattle.dbpl_store.specs.Stands.{LeavesOld}
-use Rattle.dbpl_stored_modes.proofs.Mounting.{changes_first, changes_there, moments_mounted, mounted_disk, mounted_name, mounted_said, mounted_state, mounted_then, rose_later}
-use Rattle.dbpl_stored_modes.specs.Creating.{Creates, answer_of, IsBeingMade, IsCreateAnswer, IsUnlessFault}
-use Rattle.dbpl_stored_modes.specs.Images.{EachImage, IsLeft, StandsThere}
-use Rattle.dbpl_stored_modes.specs.Leaving.{ChangesOnly}
+use Rattle.dbpl_store.specs.Stands.{LeavesOld, stands}
+use Rattle.dbpl_stored_modes.proofs.RunLaw.{rose_later}
+use Rattle.dbpl_stored_modes.specs.CreateCommand.{EndsCreate, IsTaken, MayCreate, creates, made}
+use Rattle.dbpl_stored_modes.specs.Creating.{IsBeingMade, answer_of}
+use Rattle.dbpl_stored_modes.specs.Images.{EachImage}
+use Rattle.dbpl_world.proofs.Moments.{moments_last, moments_weaken}
 use Rattle.dbpl_world.specs.Counts.{Rose}
-use Rattle.dbpl_world.specs.declared.counts.Counts.{Counts}
-use Rattle.dbpl_world.proofs.Moments.{moments_last, moments_start, moments_weaken, store_of_mounted}
-use Rattle.dbpl_world.specs.History.{History, Mounted, State, Store, more, now, store_of}
+use Rattle.dbpl_world.specs.History.{History, Mounted, State, Store, more, now, settled_store, store_of}
 use Rattle.dbpl_world.specs.Images.{IsImage}
-use Rattle.dbpl_world.specs.Moments.{EachMoment, LeavesOnly, LeavesOnlyAt}
+use Rattle.dbpl_world.specs.Moments.{EachMoment, LeavesOnlyAt}
+use Rattle.dbpl_world.specs.declared.counts.Counts.{Counts}
 
--- nothing was done yet
-pub not_begun : (name : List ℕ) (h : History) → EachImage name (now h) MayBecomeEmpty → EachMoment (LeavesOnlyAt name (IsBeingMade (now h).said)) h h
-not_begun name h may = moments_start _ h (λ log pages log_left pages_left. record { stage = inl (may log pages log_left pages_left); said_is = refl })
-
-pub not_left : (name : List ℕ) (h : History) → EachMoment (LeavesOnlyAt name (IsLeft (store_of (now h) name) (now h).said)) h h
-not_left name h = moments_start _ h (λ log pages log_left pages_left. record { log_left = log_left; pages_left = pages_left; said_is = refl })
-
--- of the world nothing but the disk has changed
-others_name : (name : List ℕ) (m s : State) → m.mounted ≡ Some name → s ≡ record m { disk = s.disk } → s.mounted ≡ Some name
-others_name name m s named others = ap (λ (t : State). t.mounted) others ∙ named
-
-module _ (name : List ℕ) (old mid : History) (mount : mid ≡ more old (Mounted name ∷ [])) where
-  -- what a call wants of the mounted store is wanted of the one of that name
-  pub may_there : EachImage name (now old) MayBecomeEmpty → (log pages : List ℕ) → IsImage (now mid).disk.log log → IsImage (now mid).disk.pages pages → MayBecomeEmpty log pages
-  may_there may log pages log_left pages_left =
-      may log pages (subst (λ (d : Store). IsImage d.log log) (mounted_disk name old mid mount) log_left)
-      (subst (λ (d : Store). IsImage d.pages pages) (mounted_disk name old mid mount) pages_left)
-
-  begun_here : (s : State) → LeavesBegun (now mid) s → (s.mounted ≡ Some name) × LeavesOnly (IsBeingMade (now old).said) s
-  begun_here s begun = (
-    others_name name (now mid) s (mounted_name name old mid mount) begun.others,
-    λ log pages log_left pages_left. record {
-      stage = begun.left log pages log_left pages_left;
-      said_is = ap (λ (t : State). t.said) begun.others ∙ mounted_said name old mid mount;
-    },
-  )
-
-  pub begun_there : (new : History) → EachImage name (now old) MayBecomeEmpty → EachMoment (LeavesBegun (now mid)) mid new →
-      EachMoment (LeavesOnlyAt name (IsBeingMade (now old).said)) old new
-  begun_there new may run =
-      mounted_then name old mid mount (IsBeingMade (now old).said) new
-      (λ log pages log_left pages_left. record { stage = inl (may log pages log_left pages_left); said_is = refl })
-      (moments_weaken (LeavesBegun (now mid)) _ mid new begun_here run)
-
-  left_here : (s : State) → LeavesOld (now mid) s → (s.mounted ≡ Some name) × LeavesOnly (IsLeft (store_of (now old) name) (now old).said) s
-  left_here s left = (
-    others_name name (now mid) s (mounted_name name old mid mount) left.others,
-    λ log pages log_left pages_left. record {
-      log_left = subst (λ (d : Store). IsImage d.log log) (mounted_disk name old mid mount) (left.log log log_left);
-      pages_left = subst (λ (d : Store). IsImage d.pages pages) (mounted_disk name old mid mount) (left.pages pages pages_left);
-      said_is = ap (λ (t : State). t.said) left.others ∙ mounted_said name old mid mount;
-    },
-  )
-
-  pub left_there : (new : History) → EachMoment (LeavesOld (now mid)) mid new →
-      EachMoment (LeavesOnlyAt name (IsLeft (store_of (now old) name) (now old).said)) old new
-  left_there new run =
-      mounted_then name old mid mount (IsLeft (store_of (now old) name) (now old).said) new
-      (λ log pages log_left pages_left. record { log_left = log_left; pages_left = pages_left; said_is = refl })
-      (moments_weaken (LeavesOld (now mid)) _ mid new left_here run)
-
-  -- the store of that name is the mounted one in the end too
-  pub there_at_end : (new : History) → (now new) ≡ record (now mid) { disk = (now new).disk } → store_of (now new) name ≡ (now new).disk
-  there_at_end new others = store_of_mounted (now new) name (others_name name (now mid) (now new) (mounted_name name old mid mount) others)
-
-  pub empty_there : (new : History) → (now new) ≡ record (now mid) { disk = (now new).disk } → StandsEmpty (now new) → StandsThere name (now new) []
-  empty_there new others empty log pages log_left pages_left =
-      let same = there_at_end new others in
-      empty log pages (subst (λ (d : Store). IsImage d.log log) same log_left) (subst (λ (d : Store). IsImage d.pages pages) same pages_left)
+-- ---- one answer
 
 -- no free name is a foreign one
-pub free_foreign : (disk : Store) → IsFree disk → IsForeign disk → ⊥
+free_foreign : (disk : Store) → IsFree disk → IsForeign disk → ⊥
 free_foreign disk free foreign = by_length foreign.long
   where
     by_length : (4096 < length disk.log.now) ⊎ (4096 < length disk.pages.now) → ⊥
     by_length (inl long) = omega (arith, long, free.short_log)
     by_length (inr long) = omega (arith, long, free.short_pages)
 
--- ---- answers
+module _ (name : List ℕ) (work : Work) (tells : IsTrue work.tells) where
+  refusal : (answer other : Status) → IsTaken name work answer → IsTaken name work other → answer ≡ other
+  refusal status.Exists status.Exists left right = refl
+  refusal status.Exists status.Foreign left right = absurd ((right tells).no_store (left tells))
+  refusal status.Foreign status.Exists left right = absurd ((left tells).no_store (right tells))
+  refusal status.Foreign status.Foreign left right = refl
+  refusal status.Exists _ left right = absurd right
+  refusal status.Foreign _ left right = absurd right
+  refusal _ other left right = absurd left
 
--- what making an empty store of the mounted one says
-pub record Made (tells : _) (mid new : History) (counts_mid counts_new : Counts) (result : Result (Unit {0}) CreateErr) : Type 0 where
+  apart : (answer : Status) → (IsTrue work.tells → IsFree (store_before name work)) → IsTaken name work answer → ⊥
+  apart status.Exists free is = (free tells).no_store (is tells)
+  apart status.Foreign free is = free_foreign (store_before name work) (free tells) (is tells)
+  apart _ free is = absurd is
+
+  made_determined : IsDetermined (made name) work
+  made_determined = record {
+    one = λ a b left right. refl;
+    refusal = refusal;
+    apart = λ a answer passes refuses. apart answer passes refuses;
+  }
+
+  pub create_determined : IsDetermined (creates name).due work
+  create_determined = joined (made name) (λ _. gives status.Done) work made_determined (λ done passes. given work status.Done)
+
+-- ---- what making an empty store of the mounted one says
+
+pub record Made (tells : Bool) (mid new : History) (counts_mid counts_new : Counts) (result : Result (Unit {0}) CreateErr) : Type 0 where
   pub moments : IsTrue tells → ((log pages : List ℕ) → IsImage (now mid).disk.log log → IsImage (now mid).disk.pages pages → MayBecomeEmpty log pages) → EachMoment (LeavesBegun (now mid)) mid new
   pub made : IsTrue tells → OnOk result (StandsEmpty (now new))
   pub bytes : IsTrue tells → OnOk result ((now new).disk.log.now ≡ begun (now mid).disk.log.now)
   pub writes : IsTrue tells → EachMoment (WritesLog (now mid)) mid new
   pub free : IsTrue tells → OnOk result (IsFree (now mid).disk)
   pub exists : IsTrue tells → result ≡ Err errors.Exists → HasHead (now mid).disk.log.now
-  pub exists_where : IsTrue tells → HasHead (now mid).disk.log.now → (result ≡ Err errors.Exists) ⊎ (result ≡ Err errors.Disk)
   pub foreign : IsTrue tells → result ≡ Err errors.Foreign → IsForeign (now mid).disk
-  pub foreign_where : IsTrue tells → IsForeign (now mid).disk → (result ≡ Err errors.Foreign) ⊎ (result ≡ Err errors.Disk)
-  pub refused : IsTrue tells → (result ≡ Err errors.Exists) ⊎ (result ≡ Err errors.Foreign) → EachMoment (LeavesOld (now mid)) mid new
+  pub settled : IsTrue tells → (result ≡ Err errors.Exists) ⊎ (result ≡ Err errors.Foreign) →
+      (now new).disk ≡ settled_store (now mid).disk.log.now (now mid).disk.pages.now
   pub kept : IsTrue tells → (IsFree (now mid).disk → ⊥) → EachMoment (LeavesOld (now mid)) mid new
   pub cause : result ≡ Err errors.Disk → Rose counts_mid.disk_faults counts_new.disk_faults
-
-create_answer : (result : Result (Unit {0}) CreateErr) → IsCreateAnswer (answer_of result)
-create_answer (Ok done) = tt
-create_answer (Err errors.Exists) = tt
-create_answer (Err errors.Foreign) = tt
-create_answer (Err errors.Disk) = tt
 
 on_done : {A : Type 0} (result : Result (Unit {0}) CreateErr) → answer_of result ≡ status.Done → OnOk result A → A
 on_done (Ok done) e holds = holds
@@ -130,111 +98,141 @@ is_foreign (Err errors.Exists) e = absurd (cc)
 is_foreign (Err errors.Foreign) e = refl
 is_foreign (Err errors.Disk) e = absurd (cc)
 
-is_disk : (result : Result (Unit {0}) CreateErr) → answer_of result ≡ status.DiskFault → result ≡ Err errors.Disk
-is_disk (Ok done) e = absurd (cc)
-is_disk (Err errors.Exists) e = absurd (cc)
-is_disk (Err errors.Foreign) e = absurd (cc)
-is_disk (Err errors.Disk) e = refl
+-- no result is want of memory
+never_wanting : (r : Result (Unit {0}) CreateErr) → answer_of r ≡ status.Memory → ⊥
+never_wanting (Ok done) e = cc
+never_wanting (Err errors.Exists) e = cc
+never_wanting (Err errors.Foreign) e = cc
+never_wanting (Err errors.Disk) e = cc
 
 module _ (name : List ℕ) (work : Work) (mid : History) (counts_mid : Counts) (result : Result (Unit {0}) CreateErr)
     (mount : IsTrue work.tells → mid ≡ more work.before (Mounted name ∷ [])) (later : work.counts_before.disk_faults ≤ counts_mid.disk_faults)
+    (prints : work.counts_after.say_faults ≡ work.counts_before.say_faults)
     (run : Made work.tells mid work.after counts_mid work.counts_after result) where
-  disk : IsTrue work.tells → (now mid).disk ≡ store_of (now work.before) name
+  disk : IsTrue work.tells → (now mid).disk ≡ store_before name work
   disk told = mounted_disk name work.before mid (mount told)
+
+  since : IsTrue work.tells → (s : State) → s ≡ record (now mid) { disk = s.disk } → SinceMounted name (now work.before) s
+  since told s others = since_mounted name work.before mid (mount told) s (only_disk (now mid) s others)
+
+  said : IsTrue work.tells → (s : State) → s ≡ record (now mid) { disk = s.disk } → s.said ≡ (now work.before).said
+  said told s others = ap (λ (t : State). t.said) others ∙ mounted_said name work.before mid (mount told)
+
+  input : IsTrue work.tells → (s : State) → s ≡ record (now mid) { disk = s.disk } → s.input ≡ (now work.before).input
+  input told s others = ap (λ (t : State). t.input) others ∙ mounted_input name work.before mid (mount told)
+
+  -- what holds of each image of the mounted store holds of the one of that name
+  images : IsTrue work.tells → (P : List ℕ → List ℕ → Type 0) (s : State) → s ≡ record (now mid) { disk = s.disk } →
+      ((log pages : List ℕ) → IsImage s.disk.log log → IsImage s.disk.pages pages → P log pages) → EachImage name s P
+  images told P s others holds = λ log pages log_left pages_left.
+      let there = stands_there name (now work.before) s (since told s others) in
+      holds log pages (subst (λ (d : Store). IsImage d.log log) there log_left) (subst (λ (d : Store). IsImage d.pages pages) there pages_left)
+
+  -- ---- the answer
+
+  abbrev IsAnswer : Status → Type 0
+  IsAnswer a = IsDue (creates name).due work a ⊎ ((creates name).due.fails work a ⊎ (a ≡ status.Memory))
+
+  due : (r : Result (Unit {0}) CreateErr) → result ≡ r → IsAnswer (answer_of r)
+  due (Ok done) e =
+      inl (inr (tt {0}, (λ told. subst IsFree (disk told) (on_done result (ap answer_of e) (run.free told))), refl))
+  due (Err errors.Exists) e = inl (inl (inl (λ told. subst (λ (d : Store). HasHead d.log.now) (disk told) (run.exists told e))))
+  due (Err errors.Foreign) e = inl (inl (inl (λ told. subst IsForeign (disk told) (run.foreign told e))))
+  due (Err errors.Disk) e = inr (inl (inl (rose_later _ _ _ later (run.cause e))))
+
+  -- ---- each moment
+
+  begun_for : IsTrue work.tells → EachImage name (now work.before) MayBecomeEmpty →
+      EachMoment (LeavesOnlyAt name (IsBeingMade (now work.before).said)) work.before work.after
+  begun_for told may =
+      moments_mounted name work.before mid (mount told) (LeavesOnlyAt name (IsBeingMade (now work.before).said)) work.after
+      (λ log pages log_left pages_left. record { stage = inl (may log pages log_left pages_left); said_is = refl })
+      (moments_weaken (LeavesBegun (now mid)) _ mid work.after
+      (λ s here. images told (λ log pages. IsBeingMade (now work.before).said log pages s.said) s here.others
+      (λ log pages log_left pages_left. record { stage = here.left log pages log_left pages_left; said_is = said told s here.others }))
+      (run.moments told (λ log pages log_left pages_left.
+      may log pages (subst (λ (d : Store). IsImage d.log log) (disk told) log_left)
+      (subst (λ (d : Store). IsImage d.pages pages) (disk told) pages_left))))
+
+  untouched : IsTrue work.tells → (s : State) → LeavesOld (now mid) s → IsUntouched (now work.before) s
+  untouched told s left =
+      untouched_there name (now work.before) s (since told s left.others) (said told s left.others)
+      (λ bytes image. subst (λ (d : Store). IsImage d.log bytes) (disk told) (left.log bytes image))
+      (λ bytes image. subst (λ (d : Store). IsImage d.pages bytes) (disk told) (left.pages bytes image))
+
+  kept_for : IsTrue work.tells → (IsFree (store_before name work) → ⊥) ⊎ (answer_of result ≡ status.Memory) →
+      EachMoment (IsUntouched (now work.before)) work.before work.after
+  kept_for told (inl none) =
+      moments_mounted name work.before mid (mount told) (IsUntouched (now work.before)) work.after (untouched_here (now work.before))
+      (moments_weaken (LeavesOld (now mid)) (IsUntouched (now work.before)) mid work.after (untouched told)
+      (run.kept told (λ free. none (subst IsFree (disk told) free))))
+  kept_for told (inr memory) = absurd (never_wanting result memory)
+
+  -- what holds of every state since then in which nothing but the disk has changed
+  each_written : IsTrue work.tells → (Q : State → Type 0) → Q (now work.before) →
+      ((s : State) → s ≡ record (now mid) { disk = s.disk } → IsSynced (now mid).disk.pages s.disk.pages → Q s) →
+      EachMoment Q work.before work.after
+  each_written told Q first holds =
+      moments_mounted name work.before mid (mount told) Q work.after first
+      (moments_weaken (WritesLog (now mid)) Q mid work.after (λ s writes. holds s writes.others writes.pages) (run.writes told))
+
+  abbrev HasStage : State → Type 0
+  HasStage s = EachImage name (now work.before) MayBecomeEmpty → LeavesOnlyAt name (IsBeingMade (now work.before).said) s
+
+  abbrev IsKept : State → Type 0
+  IsKept s = (IsFree (store_before name work) → ⊥) ⊎ (answer_of result ≡ status.Memory) → IsUntouched (now work.before) s
+
+  abbrev HasSame : State → Type 0
+  HasSame s = (s.said ≡ (now work.before).said) × (s.input ≡ (now work.before).input)
+
+  may_create : (s : State) → HasStage s × (IsKept s × HasSame s) → MayCreate name work (answer_of result) s
+  may_create s holds = record { stage = holds.0; kept = holds.1.0; said = holds.1.1.0; input = holds.1.1.1 }
+
+  moments : IsTrue work.tells → EachMoment (MayCreate name work (answer_of result)) work.before work.after
+  moments told =
+      let same = each_written told HasSame (refl, refl) (λ s others pages. (said told s others, input told s others)) in
+      let stage = moments_all (λ (may : EachImage name (now work.before) MayBecomeEmpty) (s : State). LeavesOnlyAt name (IsBeingMade (now work.before).said) s)
+          HasSame work.before work.after same (begun_for told) in
+      let kept = moments_all (λ (why : (IsFree (store_before name work) → ⊥) ⊎ (answer_of result ≡ status.Memory)) (s : State). IsUntouched (now work.before) s)
+          HasSame work.before work.after same (kept_for told) in
+      moments_weaken (λ s. HasStage s × (IsKept s × HasSame s)) (MayCreate name work (answer_of result)) work.before work.after may_create
+      (moments_both HasStage (λ s. IsKept s × HasSame s) work.before work.after stage
+      (moments_both IsKept HasSame work.before work.after kept same))
+
+  only : IsTrue work.tells → EachMoment (LeavesAlone ((creates name).due.mounts work) (now work.before)) work.before work.after
+  only told =
+      each_written told (LeavesAlone ((creates name).due.mounts work) (now work.before)) (alone_here ((creates name).due.mounts work) (now work.before))
+      (λ s others pages. alone_there name (now work.before) s (since told s others) ((creates name).due.mounts work) (inl refl)
+      (subst (λ (d : Store). IsSynced d.pages s.disk.pages) (disk told) pages))
+
+  -- ---- the end
 
   others : IsTrue work.tells → now work.after ≡ record (now mid) { disk = (now work.after).disk }
   others told = (moments_last (WritesLog (now mid)) mid work.after (run.writes told)).others
 
-  bytes : IsTrue work.tells → answer_of result ≡ status.Done →
-      (store_of (now work.after) name).log.now ≡ begun (store_of (now work.before) name).log.now
-  bytes told e =
-      ap (λ (d : Store). d.log.now) (there_at_end name work.before mid (mount told) work.after (others told))
-      ∙ on_done result e (run.bytes told) ∙ ap (λ (d : Store). begun d.log.now) (disk told)
+  there : IsTrue work.tells → store_of (now work.after) name ≡ (now work.after).disk
+  there told = stands_there name (now work.before) (now work.after) (since told (now work.after) (others told))
 
-  exists : IsTrue work.tells → HasHead (store_of (now work.before) name).log.now → IsUnlessFault (answer_of result) status.Exists
-  exists told head = by_result (run.exists_where told (subst (λ (d : Store). HasHead d.log.now) (sym (disk told)) head))
-    where
-      by_result : (result ≡ Err errors.Exists) ⊎ (result ≡ Err errors.Disk) → IsUnlessFault (answer_of result) status.Exists
-      by_result (inl e) = inl (ap answer_of e)
-      by_result (inr e) = inr (inl (ap answer_of e))
+  refused : (answer_of result ≡ status.Exists) ⊎ (answer_of result ≡ status.Foreign) →
+      (result ≡ Err errors.Exists) ⊎ (result ≡ Err errors.Foreign)
+  refused (inl e) = inl (is_exists result e)
+  refused (inr e) = inr (is_foreign result e)
 
-  foreign : IsTrue work.tells → IsForeign (store_of (now work.before) name) → IsUnlessFault (answer_of result) status.Foreign
-  foreign told found = by_result (run.foreign_where told (subst IsForeign (sym (disk told)) found))
-    where
-      by_result : (result ≡ Err errors.Foreign) ⊎ (result ≡ Err errors.Disk) → IsUnlessFault (answer_of result) status.Foreign
-      by_result (inl e) = inl (ap answer_of e)
-      by_result (inr e) = inr (inl (ap answer_of e))
-
-  refused : IsTrue work.tells → (answer_of result ≡ status.Exists) ⊎ (answer_of result ≡ status.Foreign) →
-      EachMoment (LeavesOnlyAt name (IsLeft (store_of (now work.before) name) (now work.before).said)) work.before work.after
-  refused told (inl e) = left_there name work.before mid (mount told) work.after (run.refused told (inl (is_exists result e)))
-  refused told (inr e) = left_there name work.before mid (mount told) work.after (run.refused told (inr (is_foreign result e)))
-
-  rose : answer_of result ≡ status.DiskFault → Rose work.counts_before.disk_faults work.counts_after.disk_faults
-  rose e = rose_later _ _ _ later (run.cause (is_disk result e))
-
-  complete : IsTrue work.tells → IsFree (store_of (now work.before) name) → (Rose work.counts_before.disk_faults work.counts_after.disk_faults → ⊥) →
-      (answer_of result ≡ status.Done) ⊎ (answer_of result ≡ status.Memory)
-  complete told free no_disk = by_answer (answer_of result) refl
-    where
-      -- each other answer is one of these
-      by_answer : (a : Status) → answer_of result ≡ a → (answer_of result ≡ status.Done) ⊎ (answer_of result ≡ status.Memory)
-      by_answer status.Done e = inl e
-      by_answer status.Exists e =
-          absurd (free.no_store (subst (λ (d : Store). HasHead d.log.now) (disk told) (run.exists told (is_exists result e))))
-      by_answer status.Foreign e =
-          absurd (free_foreign (store_of (now work.before) name) free (subst IsForeign (disk told) (run.foreign told (is_foreign result e))))
-      by_answer status.DiskFault e = absurd (no_disk (rose e))
-      by_answer status.Memory e = inr e
-      by_answer _ e = absurd (subst IsCreateAnswer e (create_answer result))
-
-  -- no result is want of memory
-  never_wanting : (r : Result (Unit {0}) CreateErr) → answer_of r ≡ status.Memory → ⊥
-  never_wanting (Ok done) e = absurd (cc)
-  never_wanting (Err errors.Exists) e = absurd (cc)
-  never_wanting (Err errors.Foreign) e = absurd (cc)
-  never_wanting (Err errors.Disk) e = absurd (cc)
-
-  kept : IsTrue work.tells → (IsFree (store_of (now work.before) name) → ⊥) →
-      EachMoment (LeavesOnlyAt name (IsLeft (store_of (now work.before) name) (now work.before).said)) work.before work.after
-  kept told none = left_there name work.before mid (mount told) work.after (run.kept told (λ free. none (subst IsFree (disk told) free)))
-
-  only : IsTrue work.tells → EachMoment (ChangesOnly name (now work.before)) work.before work.after
-  only told =
-      moments_mounted name work.before mid (mount told) (ChangesOnly name (now work.before)) work.after (changes_first name (now work.before))
-      (moments_weaken (WritesLog (now mid)) (ChangesOnly name (now work.before)) mid work.after
-      (λ s changes. changes_there name work.before mid (mount told) s (ap (λ (t : State). t.input) changes.others)
-      (ap (λ (t : State). t.mounted) changes.others) (ap (λ (t : State). t.others) changes.others) changes.pages)
-      (run.writes told))
-
-  silent : IsTrue work.tells → EachMoment (λ s. s.said ≡ (now work.before).said) work.before work.after
-  silent told =
-      moments_mounted name work.before mid (mount told) (λ s. s.said ≡ (now work.before).said) work.after refl
-      (moments_weaken (WritesLog (now mid)) (λ s. s.said ≡ (now work.before).said) mid work.after
-      (λ s changes. ap (λ (t : State). t.said) changes.others ∙ mounted_said name work.before mid (mount told)) (run.writes told))
-
-  creates : Creates name work (answer_of result)
-  creates = record {
-    answers = create_answer result;
-    moments = λ told may. begun_there name work.before mid (mount told) work.after may (run.moments told (may_there name work.before mid (mount told) may));
-    made = λ told e. empty_there name work.before mid (mount told) work.after (others told) (on_done result e (run.made told));
-    bytes = bytes;
-    free = λ told e. subst IsFree (disk told) (on_done result e (run.free told));
-    exists_only = λ told e. subst (λ (d : Store). HasHead d.log.now) (disk told) (run.exists told (is_exists result e));
-    exists = exists;
-    foreign_only = λ told e. subst IsForeign (disk told) (run.foreign told (is_foreign result e));
-    foreign = foreign;
-    refused = refused;
-    kept = kept;
-    wanting = λ told e. absurd (never_wanting result e);
-    silent = silent;
-    only = only;
-    disk_fault = rose;
-    complete = complete;
+  ends : IsTrue work.tells → EndsCreate name work (answer_of result) (now work.after)
+  ends told = record {
+    made = λ e. images told (λ log pages. stands log pages ≡ Some []) (now work.after) (others told) (on_done result e (run.made told));
+    bytes = λ e.
+        ap (λ (d : Store). d.log.now) (there told)
+        ∙ (on_done result e (run.bytes told) ∙ ap (λ (d : Store). begun d.log.now) (disk told));
+    settled = λ which.
+        there told ∙ (run.settled told (refused which) ∙ ap (λ (d : Store). settled_store d.log.now d.pages.now) (disk told));
   }
 
-  pub creates_as : (answer : Status) → answer ≡ answer_of result → Creates name work answer
-  creates_as answer is = subst (Creates name work) (sym is) creates
+  created : Answered (creates name) work (answer_of result)
+  created = record { answers = due result refl; moments = moments; end = ends; only = only; prints = inr prints }
+
+  pub created_as : (answer : Status) → answer ≡ answer_of result → Answered (creates name) work answer
+  created_as answer is = subst (Answered (creates name) work) (sym is) created
 
 -- nothing was noted since before the store was mounted
 pub made_unnoted : (mid after : History) → EachMoment (WritesLog (now mid)) mid after → (name : List ℕ) (before : History) →
@@ -243,57 +241,55 @@ made_unnoted mid after writes name before mount =
     ap (λ (t : State). t.noted) (moments_last (WritesLog (now mid)) mid after writes).others
     ∙ ap (λ (t : State). t.noted) (mounted_state name before mid mount)
 
--- ---- a store that wasn't mounted
+-- ---- a store that wasn't mounted: the disk failed, or memory was wanting
 
--- the disk failed, or memory was wanting
 abbrev pub IsUnmounted : Work → Status → Type 0
 IsUnmounted work answer = ((answer ≡ status.DiskFault) × Rose work.counts_before.disk_faults work.counts_after.disk_faults) ⊎ (answer ≡ status.Memory)
 
-module _ (name : List ℕ) (work : Work) (answer : Status) (still : IsTrue work.tells → work.after ≡ work.before) where
-  unmounted_answer : IsUnmounted work answer → IsCreateAnswer answer
-  unmounted_answer (inl why) = rw (why.0) tt
-  unmounted_answer (inr why) = rw why tt
+module _ (name : List ℕ) (work : Work) (answer : Status) (still : IsStill work) where
+  fault : IsUnmounted work answer →
+      IsDue (creates name).due work answer ⊎ ((creates name).due.fails work answer ⊎ (answer ≡ status.Memory))
+  fault (inl why) =
+      subst (λ (a : Status). IsDue (creates name).due work a ⊎ ((creates name).due.fails work a ⊎ (a ≡ status.Memory))) (sym why.0)
+      (inr (inl (inl why.1)))
+  fault (inr why) = inr (inr why)
 
   not_that : IsUnmounted work answer → (due : Status) → (status.DiskFault ≡ due → ⊥) → (status.Memory ≡ due → ⊥) → answer ≡ due → ⊥
   not_that (inl why) due first second e = first (sym why.0 ∙ e)
   not_that (inr why) due first second e = second (sym why ∙ e)
 
-  fault : IsUnmounted work answer → (due : Status) → IsUnlessFault answer due
-  fault (inl why) due = inr (inl why.0)
-  fault (inr why) due = inr (inr why)
+  neither : IsUnmounted work answer → (answer ≡ status.Exists) ⊎ (answer ≡ status.Foreign) → ⊥
+  neither why (inl e) = not_that why status.Exists (λ d. cc) (λ d. cc) e
+  neither why (inr e) = not_that why status.Foreign (λ d. cc) (λ d. cc) e
 
-  unmounted_rose : IsUnmounted work answer → answer ≡ status.DiskFault → Rose work.counts_before.disk_faults work.counts_after.disk_faults
-  unmounted_rose (inl why) e = why.1
-  unmounted_rose (inr why) e = absurd (cc)
-
-  unmounted_complete : IsUnmounted work answer → (Rose work.counts_before.disk_faults work.counts_after.disk_faults → ⊥) → (answer ≡ status.Done) ⊎ (answer ≡ status.Memory)
-  unmounted_complete (inl why) no_disk = absurd (no_disk why.1)
-  unmounted_complete (inr why) no_disk = inr why
-
-  pub uncreated : IsUnmounted work answer → Creates name work answer
+  pub uncreated : IsUnmounted work answer → Answered (creates name) work answer
   uncreated why = record {
-    answers = unmounted_answer why;
-    moments = λ told may.
-        subst (λ (h : History). EachMoment (LeavesOnlyAt name (IsBeingMade (now work.before).said)) work.before h) (sym (still told)) (not_begun name work.before may);
-    made = λ told e. absurd (not_that why status.Done (λ d. cc) (λ d. cc) e);
-    bytes = λ told e. absurd (not_that why status.Done (λ d. cc) (λ d. cc) e);
-    free = λ told e. absurd (not_that why status.Done (λ d. cc) (λ d. cc) e);
-    exists_only = λ told e. absurd (not_that why status.Exists (λ d. cc) (λ d. cc) e);
-    exists = λ told head. fault why status.Exists;
-    foreign_only = λ told e. absurd (not_that why status.Foreign (λ d. cc) (λ d. cc) e);
-    foreign = λ told found. fault why status.Foreign;
-    refused = λ told which.
-        subst (λ (h : History). EachMoment (LeavesOnlyAt name (IsLeft (store_of (now work.before) name) (now work.before).said)) work.before h) (sym (still told)) (not_left name work.before);
-    kept = λ told none.
-        subst (λ (h : History). EachMoment (LeavesOnlyAt name (IsLeft (store_of (now work.before) name) (now work.before).said)) work.before h) (sym (still told)) (not_left name work.before);
-    wanting = λ told e.
-        subst (λ (h : History). EachMoment (LeavesOnlyAt name (IsLeft (store_of (now work.before) name) (now work.before).said)) work.before h) (sym (still told)) (not_left name work.before);
-    silent = λ told.
-        subst (λ (h : History). EachMoment (λ s. s.said ≡ (now work.before).said) work.before h) (sym (still told))
-        (moments_start (λ s. s.said ≡ (now work.before).said) work.before refl);
+    answers = fault why;
+    moments = λ told. still_moments (MayCreate name work answer) work still told (record {
+      stage = λ may log pages log_left pages_left. record { stage = inl (may log pages log_left pages_left); said_is = refl };
+      kept = λ why. untouched_here (now work.before);
+      said = refl;
+      input = refl;
+    });
+    end = λ told. record {
+      made = λ e. absurd (not_that why status.Done (λ d. cc) (λ d. cc) e);
+      bytes = λ e. absurd (not_that why status.Done (λ d. cc) (λ d. cc) e);
+      settled = λ which. absurd (neither why which);
+    };
     only = λ told.
-        subst (λ (h : History). EachMoment (ChangesOnly name (now work.before)) work.before h) (sym (still told))
-        (moments_start (ChangesOnly name (now work.before)) work.before (changes_first name (now work.before)));
-    disk_fault = unmounted_rose why;
-    complete = λ told free no_disk. unmounted_complete why no_disk;
+        still_moments (LeavesAlone ((creates name).due.mounts work) (now work.before)) work still told
+        (alone_here ((creates name).due.mounts work) (now work.before));
+    prints = inr still.prints;
   }
+
+-- making a store is never answered as bad words
+pub never_bad_words : (name : List ℕ) (work : Work) → Answered (creates name) work status.BadWords → ⊥
+never_bad_words name work did = by_answer did.answers
+  where
+    by_answer : IsDue (creates name).due work status.BadWords ⊎ ((creates name).due.fails work status.BadWords ⊎ (status.BadWords ≡ status.Memory)) → ⊥
+    by_answer (inl (inl (inl refuses))) = refuses
+    by_answer (inl (inl (inr within))) = within.2
+    by_answer (inl (inr (done, passes, same))) = cc (same)
+    by_answer (inr (inl (inl fault))) = fault
+    by_answer (inr (inl (inr within))) = within.2
+    by_answer (inr (inr memory)) = cc (memory)

@@ -1,56 +1,66 @@
--- Why a run over the store of a name answers so: from what a run over the mounted store says.
-use Rattle.std.proofs.Common.{◌≡◌, ◌≢◌, ◌∙◌, ◌⊎◌, ◌≤◌, ℕ, Bool, List, None, Some, Result, Ok, Err, OnOk, IfErr, IsOk, IsTrue, [], ◌∷◌, ◌++◌, true, false, ap, append-nil, inl, inr, refl, subst, sym}
-use Rattle.std.specs.Prelude.{bytes_eq}
+-- Why a run over the store of a name keeps its promise: from what a run over the mounted store says.
+use Rattle.std.proofs.Common.{◌≡◌, ◌≢◌, ◌∙◌, ◌⊎◌, ◌≤◌, ◌++◌, ℕ, Bool, List, [], ◌∷◌, None, Option, Some, Result, Ok, Err, OnOk, IfErr, IsOk, IsTrue, ap, arith, bytes_eq, false, inl, inr, refl, subst, sym, take, true}
+use Rattle.std.proofs.lemmas.Slice.Eq.{bytes_eq-Decides}
 use Rattle.dbpl_base.specs.declared.status.Status.{Status}
 use Rattle.dbpl_base.specs.declared.status.Status.TheVariants as status
-use Rattle.dbpl_core.specs.Events.{Event, prints}
-use Rattle.dbpl_stored_program.specs.Meaning.{Ended, Going, Standing, Trapped}
-use Rattle.dbpl_stored_program.specs.Whole.{events_of, whole_run}
-use Rattle.dbpl_stored_program.specs.declared.stored_program.StoredProgram.{StoredProgram}
+use Rattle.dbpl_core.specs.Events.{Event, last, prints}
+use Rattle.dbpl_core.specs.Outcomes.{Ended, IsToldBy, Outcome, Standing, TellsOfEnd, Trapped}
 use Rattle.dbpl_core.specs.declared.trap.Trap.{Trap}
-use Rattle.dbpl_value.proofs.BoundTo.{binds-one}
-use Rattle.dbpl_value.specs.Binding.{Binds, Differs, bound_named}
-use Rattle.dbpl_log.specs.Records.{HasHead}
-use Rattle.dbpl_sources.proofs.Noting.{still_notes}
-use Rattle.dbpl_sources.specs.Work.{Work}
+use Rattle.dbpl_log.specs.Changes.{IsSynced}
+use Rattle.dbpl_log.specs.Records.{HasHead, open_head}
+use Rattle.dbpl_promise.proofs.AnswerKinds.{refusal_kind}
+use Rattle.dbpl_promise.proofs.Leaving.{alone_here, tied_here, untouched_here}
+use Rattle.dbpl_promise.proofs.Mounted.{SinceMounted, alone_there, moments_mounted, mounted_disk, mounted_input, mounted_said, mounted_state, only_disk, since_mounted, stands_there, untouched_there}
+use Rattle.dbpl_promise.proofs.Together.{moments_all, moments_both}
+use Rattle.dbpl_promise.specs.Leaving.{IsUntouched, made_sure}
+use Rattle.dbpl_promise.specs.Opening.{no_store, store_before}
+use Rattle.dbpl_promise.specs.Promises.{Answered, LeavesAlone}
+use Rattle.dbpl_promise.specs.Refusals.{is_refusal}
+use Rattle.dbpl_promise.specs.Running.{EndsRun, HasMadeSome, MayRun, RunsNothing, ended, running}
+use Rattle.dbpl_promise.specs.Runs.{HasMade, IsTied, IsWhole, Leaves, Run, StoodFor}
+use Rattle.dbpl_promise.specs.Stages.{IsDue, ◌>>=◌}
+use Rattle.dbpl_promise.specs.Work.{IsTold, Work}
 use Rattle.dbpl_store.specs.Stands.{LeavesOld, stands}
-use Rattle.dbpl_stored_modes.proofs.MadeLaw.{left_there, not_left}
-use Rattle.dbpl_stored_modes.proofs.Mounting.{changes_first, changes_there, moments_mounted, mounted_disk, mounted_name, mounted_said, mounted_state, mounted_then, rose_later}
-use Rattle.dbpl_stored_modes.specs.Images.{IsLeft, ReadsThere, StandsThere}
-use Rattle.dbpl_stored_modes.specs.Leaving.{ChangesOnly}
-use Rattle.dbpl_stored_modes.specs.StoredRuns.{HasAll, HasNone, HasOtherThere, HasRunThere, TellsOfRun, IsDamaged, IsDueAnswer, IsRunAnswer, IsUnlessUnopened, IsUnrun, ReadsOver, RunsOver, RunsStored, no_store}
+use Rattle.dbpl_stored_modes.proofs.Stages.{found_over, over_kinds, over_mounts, over_store, passes_over, run_of}
+use Rattle.dbpl_stored_modes.specs.Telling.{TellsOfRun}
+use Rattle.dbpl_stored_program.proofs.Databases.{bound-is_there}
+use Rattle.dbpl_stored_program.proofs.Statements.{whole-comes_to}
+use Rattle.dbpl_stored_program.specs.Whole.{events_of, turns_of, whole_run}
+use Rattle.dbpl_stored_program.specs.declared.stored_program.StoredProgram.{StoredProgram}
 use Rattle.dbpl_stored_run.specs.Answers as ran
-use Rattle.dbpl_stored_run.specs.Answers.{IsDue, IsRefusal, ReadsAs}
-use Rattle.dbpl_stored_run.specs.Headline.{HasMade, HasMadePrefix, LeavesTied, StandsFor}
+use Rattle.dbpl_stored_run.specs.Answers.{IsRefusal}
+use Rattle.dbpl_stored_run.specs.Headline as made
+use Rattle.dbpl_stored_run.specs.Headline.{LeavesTied, StandsFor}
 use Rattle.dbpl_stored_run.specs.Leaving.{ChangesStore}
 use Rattle.dbpl_stored_run.specs.declared.stop_err.StopErr.{StopErr}
 use Rattle.dbpl_stored_run.specs.declared.stop_err.StopErr.TheVariants as errors
+use Rattle.dbpl_value.proofs.BoundTo.{binds-one}
+use Rattle.dbpl_value.specs.Binding.{Binds, Differs, bound_to, empty_bound}
 use Rattle.dbpl_value.specs.declared.bound.Bound.{Bound}
-use Rattle.dbpl_value.specs.declared.field.Field.{Field}
-use Rattle.dbpl_world.proofs.Moments.{leaves_at_name, moments_last, moments_start, moments_weaken}
+use Rattle.dbpl_world.proofs.Moments.{moments_last, moments_weaken}
 use Rattle.dbpl_world.specs.Counts.{Rose}
-use Rattle.dbpl_world.specs.History.{History, Mounted, State, Store, more, now, store_of}
+use Rattle.dbpl_world.specs.History.{History, Mounted, State, Store, more, now, settled_store, store_of}
 use Rattle.dbpl_world.specs.Images.{IsImage}
-use Rattle.dbpl_world.specs.Moments.{EachMoment, LeavesOnly, LeavesOnlyAt}
+use Rattle.dbpl_world.specs.Moments.{EachMoment}
 use Rattle.dbpl_world.specs.declared.counts.Counts.{Counts}
-
--- ---- databases
 
 -- a name that was compared with `-`
 pub named_store : (name : List ℕ) → false ≡ bytes_eq name no_store → name ≢ no_store
 named_store name differs e = let same : false ≡ true = subst (λ (other : List ℕ). false ≡ bytes_eq other no_store) e differs in absurd (cc)
+
+-- a count that has risen behind another has risen
+pub rose_later : (old mid new : ℕ) → old ≤ mid → Rose mid new → Rose old new
+rose_later old mid new later rose = omega (arith, later, rose)
 
 -- ---- what a run over the mounted store says
 
 pub record RanMounted (stored : StoredProgram) (tells : Bool) (mid new : History) (counts_mid counts_new : Counts) (result : Result (Unit {0}) StopErr) : Type 0 where
   pub headline : IsTrue tells → (database bound : List Bound) → StandsFor database (now mid) → Binds stored.relation database bound →
       EachMoment (LeavesTied (events_of stored bound (now mid).input) database (now mid)) mid new
-  pub made : IsTrue tells → (database bound : List Bound) → ReadsAs database (now mid) → Binds stored.relation database bound →
-      OnOk result (HasMade (events_of stored bound (now mid).input) database (now mid) (now new))
-  pub made_trapped : IsTrue tells → (database bound : List Bound) → ReadsAs database (now mid) → Binds stored.relation database bound →
-      (trap : Trap) → result ≡ Err (errors.Trapped trap) → HasMade (events_of stored bound (now mid).input) database (now mid) (now new)
-  pub complete : IsTrue tells → (database bound : List Bound) → ReadsAs database (now mid) → Binds stored.relation database bound →
-      (Rose counts_mid.disk_faults counts_new.disk_faults → ⊥) → (Rose counts_mid.say_faults counts_new.say_faults → ⊥) → IsDue (whole_run stored bound (now mid).input).stands result
+  pub whole : IsTrue tells → (database bound : List Bound) → ran.ReadsAs database (now mid) → Binds stored.relation database bound →
+      OnOk result (made.HasMade (events_of stored bound (now mid).input) database (now mid) (now new))
+  pub whole_trapped : IsTrue tells → (database bound : List Bound) → ran.ReadsAs database (now mid) → Binds stored.relation database bound →
+      (trap : Trap) → result ≡ Err (errors.Trapped trap) → made.HasMade (events_of stored bound (now mid).input) database (now mid) (now new)
   pub ended : OnOk result (ran.HasRun stored Ended tells mid new)
   pub trapped : (trap : Trap) → result ≡ Err (errors.Trapped trap) → ran.HasRun stored (Trapped trap) tells mid new
   pub not_store : IsTrue tells → result ≡ Err errors.NotStore → HasHead (now mid).disk.log.now → ⊥
@@ -60,300 +70,405 @@ pub record RanMounted (stored : StoredProgram) (tells : Bool) (mid new : History
   pub damaged_where : IsTrue tells → HasHead (now mid).disk.log.now → stands (now mid).disk.log.now (now mid).disk.pages.now ≡ None →
       (result ≡ Err (errors.Damaged 0)) ⊎ ((result ≡ Err errors.DiskFault) ⊎ (result ≡ Err errors.Memory))
   pub differs : result ≡ Err errors.SchemaDiffers → ran.HasOther stored.relation tells mid
-  pub differs_where : IsTrue tells → (database : List Bound) → ReadsAs database (now mid) → Differs stored.relation database →
+  pub differs_where : IsTrue tells → (database : List Bound) → ran.ReadsAs database (now mid) → Differs stored.relation database →
       (result ≡ Err errors.SchemaDiffers) ⊎ ((result ≡ Err errors.DiskFault) ⊎ (result ≡ Err errors.Memory))
   pub disk_fault : result ≡ Err errors.DiskFault → Rose counts_mid.disk_faults counts_new.disk_faults
   pub out_fault : result ≡ Err errors.OutFault → Rose counts_mid.say_faults counts_new.say_faults
   pub out_fault_where : (result ≡ Err errors.OutFault) ⊎ (counts_new.say_faults ≡ counts_mid.say_faults)
+  pub at_rest : IsTrue tells → (database bound : List Bound) → StandsFor database (now mid) → Binds stored.relation database bound →
+      result ≢ Err errors.DiskFault → made.HasMadeSome (events_of stored bound (now mid).input) database (now mid) (now new)
+  pub settled : IsTrue tells → IfErr result (λ why. IsRefusal why →
+      (now new).disk ≡ settled_store (now mid).disk.log.now (now mid).disk.pages.now)
   pub refused : IsTrue tells → IfErr result (λ why. IsRefusal why → EachMoment (LeavesOld (now mid)) mid new)
-  pub unbound : IsTrue tells → ((database bound : List Bound) → ReadsAs database (now mid) → Binds stored.relation database bound → ⊥) → EachMoment (LeavesOld (now mid)) mid new
+  pub unbound : IsTrue tells → ((database bound : List Bound) → ran.ReadsAs database (now mid) → Binds stored.relation database bound → ⊥) →
+      EachMoment (LeavesOld (now mid)) mid new
   pub only : IsTrue tells → EachMoment (ChangesStore (now mid)) mid new
 
 -- ---- answers and results
 
--- THE result behind an answer, by cases on the answer
-abbrev HasCome : StoredProgram → Result (Unit {0}) StopErr → Status → Type 0
-HasCome stored result status.Done = IsOk result
-HasCome stored result (status.Trapped kind place) = result ≡ Err (errors.Trapped (record { kind = kind; place = place }))
-HasCome stored result status.NotStore = result ≡ Err errors.NotStore
-HasCome stored result (status.Damaged page) = result ≡ Err (errors.Damaged page)
-HasCome stored result (status.SchemaDiffers name) = (result ≡ Err errors.SchemaDiffers) × (name ≡ stored.relation.name)
-HasCome stored result status.DiskFault = result ≡ Err errors.DiskFault
-HasCome stored result status.OutFault = result ≡ Err errors.OutFault
-HasCome stored result status.Memory = Unit {0}
-HasCome stored result _ = ⊥
+-- a refusal comes from a refusal
+on_refusal : {Y : Type 0} (stored : StoredProgram) (r : Result (Unit {0}) StopErr) (a : Status) → TellsOfRun stored r a → is_refusal a ≡ true →
+    IfErr r (λ why. IsRefusal why → Y) → Y
+on_refusal stored (Ok _) a is refuses left = absurd (cc (ap is_refusal is, refuses))
+on_refusal stored (Err (errors.Trapped trap)) a is refuses left = absurd (cc (ap is_refusal is, refuses))
+on_refusal stored (Err errors.NotStore) a is refuses left = left tt
+on_refusal stored (Err (errors.Damaged page)) a is refuses left = left tt
+on_refusal stored (Err errors.SchemaDiffers) a is refuses left = left tt
+on_refusal stored (Err errors.DiskFault) a is refuses left = absurd (cc (ap is_refusal is, refuses))
+on_refusal stored (Err errors.OutFault) a is refuses left = absurd (cc (ap is_refusal is, refuses))
+on_refusal stored (Err errors.Memory) a is refuses left = absurd (cc (ap is_refusal is, refuses))
 
-has_come : (stored : StoredProgram) (result : Result (Unit {0}) StopErr) (answer : Status) → TellsOfRun stored result answer → HasCome stored result answer
-has_come stored (Ok made) answer is = subst (HasCome stored (Ok made)) (sym is) refl
-has_come stored (Err (errors.Trapped trap)) answer is = subst (HasCome stored (Err (errors.Trapped trap))) (sym is) refl
-has_come stored (Err errors.NotStore) answer is = subst (HasCome stored (Err errors.NotStore)) (sym is) refl
-has_come stored (Err (errors.Damaged page)) answer is = subst (HasCome stored (Err (errors.Damaged page))) (sym is) refl
-has_come stored (Err errors.SchemaDiffers) answer (inl is) = subst (HasCome stored (Err errors.SchemaDiffers)) (sym is) (refl, refl)
-has_come stored (Err errors.SchemaDiffers) answer (inr is) = subst (HasCome stored (Err errors.SchemaDiffers)) (sym is) tt
-has_come stored (Err errors.DiskFault) answer is = subst (HasCome stored (Err errors.DiskFault)) (sym is) refl
-has_come stored (Err errors.OutFault) answer is = subst (HasCome stored (Err errors.OutFault)) (sym is) refl
-has_come stored (Err errors.Memory) answer is = subst (HasCome stored (Err errors.Memory)) (sym is) tt
+-- THE result behind an answer that tells of an end
+abbrev EndsSo : Result (Unit {0}) StopErr → Status → Type 0
+EndsSo result status.Done = IsOk result
+EndsSo result (status.Trapped kind place) = result ≡ Err (errors.Trapped (record { kind = kind; place = place }))
+EndsSo result _ = Unit {0}
 
--- so each is an answer of a run
-run_answer : (stored : StoredProgram) (result : Result (Unit {0}) StopErr) (answer : Status) → HasCome stored result answer → IsRunAnswer answer
-run_answer stored result status.Done come = tt
-run_answer stored result (status.Trapped kind place) come = tt
-run_answer stored result status.NotStore come = tt
-run_answer stored result (status.Damaged page) come = tt
-run_answer stored result (status.SchemaDiffers name) come = tt
-run_answer stored result status.DiskFault come = tt
-run_answer stored result status.OutFault come = tt
-run_answer stored result status.Memory come = tt
-run_answer stored result _ come = absurd come
+ends_so : (stored : StoredProgram) (result : Result (Unit {0}) StopErr) (answer : Status) → TellsOfRun stored result answer → EndsSo result answer
+ends_so stored (Ok done) answer is = subst (EndsSo (Ok done)) (sym is) refl
+ends_so stored (Err (errors.Trapped trap)) answer is = subst (EndsSo (Err (errors.Trapped trap))) (sym is) refl
+ends_so stored (Err errors.NotStore) answer is = subst (EndsSo (Err errors.NotStore)) (sym is) tt
+ends_so stored (Err (errors.Damaged page)) answer is = subst (EndsSo (Err (errors.Damaged page))) (sym is) tt
+ends_so stored (Err errors.SchemaDiffers) answer (inl is) = subst (EndsSo (Err errors.SchemaDiffers)) (sym is) tt
+ends_so stored (Err errors.SchemaDiffers) answer (inr is) = subst (EndsSo (Err errors.SchemaDiffers)) (sym is) tt
+ends_so stored (Err errors.DiskFault) answer is = subst (EndsSo (Err errors.DiskFault)) (sym is) tt
+ends_so stored (Err errors.OutFault) answer is = subst (EndsSo (Err errors.OutFault)) (sym is) tt
+ends_so stored (Err errors.Memory) answer is = subst (EndsSo (Err errors.Memory)) (sym is) tt
 
 -- what holds where it is done
 on_ok : {A : Type 0} (result : Result (Unit {0}) StopErr) → IsOk result → OnOk result A → A
 on_ok (Ok _) ok holds = holds
 on_ok (Err why) ok holds = absurd (cc)
 
-ok_answer : (stored : StoredProgram) (result : Result (Unit {0}) StopErr) (answer : Status) → TellsOfRun stored result answer → IsOk result → answer ≡ status.Done
-ok_answer stored (Ok _) answer is ok = is
-ok_answer stored (Err why) answer is ok = absurd (cc)
+-- a run over a bound database leaves the input
+whole_left : (stored : StoredProgram) (database bound : List Bound) (input : List ℕ) → Binds stored.relation database bound →
+    (whole_run stored bound input).left ≡ input
+whole_left stored database bound input binds =
+    let there = bound-is_there stored.relation database bound binds in
+    ap (λ (outcome : Outcome). outcome.left) (whole-comes_to stored bound input there.0 there.1)
 
 -- ---- the run over the store of a name
 
-module _ (name : List ℕ) (stored : StoredProgram) (work : Work) (mid : History) (counts_mid : Counts) (result : Result (Unit {0}) StopErr) (answer : Status)
-    (named : name ≢ no_store) (mount : IsTrue work.tells → mid ≡ more work.before (Mounted name ∷ []))
+module _ (store : List ℕ) (stored : StoredProgram) (work : Work) (mid : History) (counts_mid : Counts) (result : Result (Unit {0}) StopErr) (answer : Status)
+    (mount : IsTrue work.tells → mid ≡ more work.before (Mounted store ∷ []))
     (disk_later : work.counts_before.disk_faults ≤ counts_mid.disk_faults) (say_same : counts_mid.say_faults ≡ work.counts_before.say_faults)
     (run : RanMounted stored work.tells mid work.after counts_mid work.counts_after result) (is : TellsOfRun stored result answer) where
-  -- the result behind this answer
-  come_as : (due : Status) → answer ≡ due → HasCome stored result due
-  come_as due e = subst (HasCome stored result) e (has_come stored result answer is)
-
   -- the mounted store is the one of that name
-  disk : IsTrue work.tells → (now mid).disk ≡ store_of (now work.before) name
-  disk told = mounted_disk name work.before mid (mount told)
+  disk : IsTrue work.tells → (now mid).disk ≡ store_before store work
+  disk told = mounted_disk store work.before mid (mount told)
 
-  -- nothing was taken
-  same_input : IsTrue work.tells → (now mid).input ≡ (now work.before).input
-  same_input told = ap (λ (t : State). t.input) (mounted_state name work.before mid (mount told))
+  said : IsTrue work.tells → (now mid).said ≡ (now work.before).said
+  said told = mounted_said store work.before mid (mount told)
 
-  stands_here : IsTrue work.tells → (database : List Bound) → StandsThere name (now work.before) database → StandsFor database (now mid)
-  stands_here told database there log pages log_left pages_left =
-      there log pages (subst (λ (d : Store). IsImage d.log log) (disk told) log_left) (subst (λ (d : Store). IsImage d.pages pages) (disk told) pages_left)
+  input : IsTrue work.tells → (now mid).input ≡ (now work.before).input
+  input told = mounted_input store work.before mid (mount told)
 
-  reads_here : IsTrue work.tells → (database : List Bound) → ReadsThere name (now work.before) database → ReadsAs database (now mid)
-  reads_here told database there = subst (λ (d : Store). stands d.log.now d.pages.now ≡ Some database) (sym (disk told)) there
+  abbrev ReadsBefore : List Bound → Type 0
+  ReadsBefore database = stands (store_before store work).log.now (store_before store work).pages.now ≡ Some database
 
-  -- whatever was read before is this database
-  one_read : IsTrue work.tells → (database other : List Bound) → ReadsAs database (now mid) → ReadsAs other (now mid) → database ≡ other
-  one_read told database other h k = let same : Some database ≡ Some other = sym h ∙ k in cc
+  reads_here : IsTrue work.tells → (database : List Bound) → ReadsBefore database → ran.ReadsAs database (now mid)
+  reads_here told database reads = subst (λ (d : Store). stands d.log.now d.pages.now ≡ Some database) (sym (disk told)) reads
 
-  -- since the store was mounted nothing has changed but its disk, and what was said
-  named_end : IsTrue work.tells → (now work.after).mounted ≡ Some name
-  named_end told =
-      ap (λ (t : State). t.mounted) (moments_last (ChangesStore (now mid)) mid work.after (run.only told)).others
-      ∙ mounted_name name work.before mid (mount told)
+  reads_there : IsTrue work.tells → (database : List Bound) → ran.ReadsAs database (now mid) → ReadsBefore database
+  reads_there told database reads = subst (λ (d : Store). stands d.log.now d.pages.now ≡ Some database) (disk told) reads
 
-  tied_here : IsTrue work.tells → (events : List Event) (database : List Bound) (t : State) → LeavesTied events database (now mid) t →
-      (t.mounted ≡ Some name) × LeavesOnly (HasMadePrefix events database (now work.before).said) t
-  tied_here told events database t tied = (
-    ap (λ (u : State). u.mounted) tied.others ∙ mounted_name name work.before mid (mount told),
-    λ log pages log_left pages_left.
-        subst (λ (before : List ℕ). HasMadePrefix events database before log pages t.said) (mounted_said name work.before mid (mount told))
-        (tied.left log pages log_left pages_left),
+  stands_here : IsTrue work.tells → (database bound : List Bound) → StoodFor (run_of store stored database bound) (now work.before) →
+      StandsFor database (now mid)
+  stands_here told database bound stood log pages log_left pages_left =
+      stood log pages (subst (λ (d : Store). IsImage d.log log) (disk told) log_left) (subst (λ (d : Store). IsImage d.pages pages) (disk told) pages_left)
+
+  -- a state since then
+  since : IsTrue work.tells → (s : State) → s ≡ record (now mid) { disk = s.disk; said = s.said } → SinceMounted store (now work.before) s
+  since told s others = since_mounted store work.before mid (mount told) s others
+
+  -- what is claimed of the mounted store is claimed of the one of that name
+  at_name : IsTrue work.tells → (P : Option (List Bound) → List ℕ → Type 0) (s : State) → s ≡ record (now mid) { disk = s.disk; said = s.said } →
+      ((log pages : List ℕ) → IsImage s.disk.log log → IsImage s.disk.pages pages → P (stands log pages) s.said) → Leaves (Some store) P s
+  at_name told P s others holds = λ log pages log_left pages_left.
+      let there = stands_there store (now work.before) s (since told s others) in
+      holds log pages (subst (λ (d : Store). IsImage d.log log) there log_left) (subst (λ (d : Store). IsImage d.pages pages) there pages_left)
+
+  -- ---- the answer
+
+  -- what is run was run over this
+  module _ (database bound : List Bound) (reads : IsTrue work.tells → ran.ReadsAs database (now mid)) (binds : Binds stored.relation database bound) where
+    pub passes : (over_store store stored).passes work (run_of store stored database bound)
+    passes = passes_over store stored work database bound (λ told. reads_there told database (reads told)) binds
+
+  ends_with : (standing : Standing) (a : Status) → IsToldBy standing a → ran.HasRun stored standing work.tells mid work.after →
+      (over_store store stored >>= ended).passes work a
+  ends_with standing a told_by has = (
+    run_of store stored has.database has.bound,
+    passes has.database has.bound has.stood has.binds,
+    record {
+      input = (now mid).input;
+      told = input;
+      turns = turns_of stored;
+      ends = subst (λ (s : Standing). IsToldBy s a) (sym has.ends) told_by;
+    },
   )
 
-  -- before anything was made
-  tied_first : (events : List Event) (database : List Bound) → StandsThere name (now work.before) database → LeavesOnlyAt name (HasMadePrefix events database (now work.before).said) (now work.before)
-  tied_first events database there log pages log_left pages_left = record {
-    made = [];
-    rest = events;
-    prefix = refl;
-    printed = sym (append-nil (now work.before).said);
-    stored = there log pages log_left pages_left;
-  }
+  -- a run whose output failed was over a database that is bound
+  record IsOver : Type 0 where
+    database : List Bound
+    bound : List Bound
+    reads : IsTrue work.tells → ran.ReadsAs database (now mid)
+    binds : Binds stored.relation database bound
 
-  headline : IsTrue work.tells → (database bound : List Bound) → RunsOver name work stored database bound →
-      EachMoment (LeavesOnlyAt name (HasMadePrefix (events_of stored bound (now work.before).input) database (now work.before).said)) work.before work.after
-  headline told database bound over =
-      mounted_then name work.before mid (mount told) (HasMadePrefix (events_of stored bound (now work.before).input) database (now work.before).said) work.after
-      (tied_first (events_of stored bound (now work.before).input) database over.stands_for)
-      (moments_weaken (LeavesTied (events_of stored bound (now work.before).input) database (now mid)) _ mid work.after (tied_here told (events_of stored bound (now work.before).input) database)
-      (subst (λ (input : List ℕ). EachMoment (LeavesTied (events_of stored bound input) database (now mid)) mid work.after) (same_input told)
-      (run.headline told database bound (stands_here told database over.stands_for) over.binds)))
+  over_bound : result ≡ Err errors.OutFault → IsOver
+  over_bound e = by_telling work.tells refl
+    where
+      no_other : (result ≡ Err errors.SchemaDiffers) ⊎ ((result ≡ Err errors.DiskFault) ⊎ (result ≡ Err errors.Memory)) → ⊥
+      no_other (inl is) = cc (e, is)
+      no_other (inr (inl is)) = cc (e, is)
+      no_other (inr (inr is)) = cc (e, is)
 
-  all_there : IsTrue work.tells → (events : List Event) (database : List Bound) → HasMade events database (now mid) (now work.after) →
-      LeavesOnlyAt name (HasAll events database (now work.before).said) (now work.after)
-  all_there told events database made =
-      leaves_at_name (HasAll events database (now work.before).said) (now work.after) name (named_end told) (λ log pages log_left pages_left. record {
-        printed = made.printed ∙ ap (λ (before : List ℕ). before ++ prints events) (mounted_said name work.before mid (mount told));
-        stored = made.stored log pages log_left pages_left;
-      })
+      no_damage : (result ≡ Err (errors.Damaged 0)) ⊎ ((result ≡ Err errors.DiskFault) ⊎ (result ≡ Err errors.Memory)) → ⊥
+      no_damage (inl is) = cc (e, is)
+      no_damage (inr (inl is)) = cc (e, is)
+      no_damage (inr (inr is)) = cc (e, is)
 
-  -- how the meaning over the store's database stands
-  stands_so : IsTrue work.tells → (database bound : List Bound) → ReadsOver name work stored database bound → (standing : Standing) →
-      ran.HasRun stored standing work.tells mid work.after → (whole_run stored bound (now work.before).input).stands ≡ standing
-  stands_so told database bound over standing has =
-      let same = one_read told has.database database (has.stood told) (reads_here told database over.reads) in
-      let binds = subst (λ (d : List Bound). Binds stored.relation d has.bound) same has.binds in
-      ap (λ (b : List Bound). (whole_run stored b (now work.before).input).stands) (binds-one stored.relation database bound has.bound over.binds binds)
-      ∙ ap (λ (input : List ℕ). (whole_run stored has.bound input).stands) (sym (same_input told)) ∙ has.ends
+      no_two : (result ≡ Err errors.NotStore) ⊎ (result ≡ Err errors.DiskFault) → ⊥
+      no_two (inl is) = cc (e, is)
+      no_two (inr is) = cc (e, is)
 
-  done : IsTrue work.tells → (database bound : List Bound) → ReadsOver name work stored database bound → answer ≡ status.Done →
-      HasRunThere name work stored database bound Ended
-  done told database bound over e =
-      let ok = come_as status.Done e in
-      record {
-        stands_so = stands_so told database bound over Ended (on_ok result ok run.ended);
-        all = all_there told (events_of stored bound (now work.before).input) database
-            (subst (λ (input : List ℕ). HasMade (events_of stored bound input) database (now mid) (now work.after)) (same_input told)
-            (on_ok result ok (run.made told database bound (reads_here told database over.reads) over.binds)));
+      by_bound : IsTrue work.tells → (database : List Bound) → ran.ReadsAs database (now mid) → (found : Option (List Bound)) →
+          bound_to stored.relation database ≡ found → IsOver
+      by_bound told database reads (Some bound) binds = record { database = database; bound = bound; reads = λ tells. reads; binds = binds }
+      by_bound told database reads None differs =
+          absurd (no_other (run.differs_where told database reads differs))
+
+      by_head : IsTrue work.tells → stands (now mid).disk.log.now (now mid).disk.pages.now ≡ None → (test : Bool) →
+          bytes_eq (take 16 (now mid).disk.log.now) open_head ≡ test → IsOver
+      by_head told none true same =
+          absurd (no_damage (run.damaged_where told ((bytes_eq-Decides (take 16 (now mid).disk.log.now) open_head).0 same) none))
+      by_head told none false differs =
+          absurd (no_two (run.not_store_where told (λ head. cc (differs, (bytes_eq-Decides (take 16 (now mid).disk.log.now) open_head).1 head))))
+
+      by_stand : IsTrue work.tells → (found : Option (List Bound)) → stands (now mid).disk.log.now (now mid).disk.pages.now ≡ found → IsOver
+      by_stand told (Some database) reads = by_bound told database reads (bound_to stored.relation database) refl
+      by_stand told None none = by_head told none (bytes_eq (take 16 (now mid).disk.log.now) open_head) refl
+
+      by_telling : (tells : Bool) → work.tells ≡ tells → IsOver
+      by_telling true told = by_stand told (stands (now mid).disk.log.now (now mid).disk.pages.now) refl
+      by_telling false untold = record {
+        database = [];
+        bound = empty_bound stored.relation ∷ [];
+        reads = λ told. absurd (cc (untold, told));
+        binds = refl;
       }
 
-  trapped : IsTrue work.tells → (database bound : List Bound) → ReadsOver name work stored database bound → (trap : Trap) →
-      answer ≡ status.Trapped trap.kind trap.place → HasRunThere name work stored database bound (Trapped trap)
-  trapped told database bound over trap e =
-      let err = come_as (status.Trapped trap.kind trap.place) e in
-      record {
-        stands_so = stands_so told database bound over (Trapped trap) (run.trapped trap err);
-        all = all_there told (events_of stored bound (now work.before).input) database
-            (subst (λ (input : List ℕ). HasMade (events_of stored bound input) database (now mid) (now work.after)) (same_input told)
-            (run.made_trapped told database bound (reads_here told database over.reads) over.binds trap err));
-      }
+  abbrev IsAnswer : Status → Type 0
+  IsAnswer a = IsDue (over_store store stored >>= ended) work a ⊎ ((over_store store stored >>= ended).fails work a ⊎ (a ≡ status.Memory))
 
-  due : (standing : Standing) → IsDue standing result → IsDueAnswer standing answer ⊎ (answer ≡ status.Memory)
-  due Ended (inl ok) = inl (ok_answer stored result answer is ok)
-  due Ended (inr e) = inr (subst (λ r. TellsOfRun stored r answer) e is)
-  due (Trapped trap) (inl e) = inl (subst (λ r. TellsOfRun stored r answer) e is)
-  due (Trapped trap) (inr e) = inr (subst (λ r. TellsOfRun stored r answer) e is)
-  due Going e = absurd e
+  due : (r : Result (Unit {0}) StopErr) → result ≡ r → TellsOfRun stored r answer → IsAnswer answer
+  due (Ok done) e told =
+      subst IsAnswer (sym told) (inl (inr (ends_with Ended status.Done refl
+      (on_ok (Ok done) refl (subst (λ (r : Result (Unit {0}) StopErr). OnOk r (ran.HasRun stored Ended work.tells mid work.after)) e run.ended)))))
+  due (Err (errors.Trapped trap)) e told =
+      subst IsAnswer (sym told) (inl (inr (ends_with (Trapped trap) (status.Trapped trap.kind trap.place) refl (run.trapped trap e))))
+  due (Err errors.NotStore) e told =
+      subst IsAnswer (sym told) (inl (inl (inl (inl (λ tells.
+      subst (λ (d : Store). HasHead d.log.now → ⊥) (disk tells) (run.not_store tells e))))))
+  due (Err (errors.Damaged page)) e told =
+      subst IsAnswer (sym told) (inl (inl (inl (inl (λ tells. let found = run.damaged tells page e in record {
+        head = subst (λ (d : Store). HasHead d.log.now) (disk tells) found.1;
+        none = subst (λ (d : Store). stands d.log.now d.pages.now ≡ None) (disk tells) found.2;
+        first = found.0;
+      })))))
+  due (Err errors.SchemaDiffers) e (inl told) =
+      let other = run.differs e in
+      subst IsAnswer (sym told) (inl (inl (inl (inr (other.database, (λ tells. reads_there tells other.database (other.stood tells)),
+      inl (inl (refl, other.differs)))))))
+  due (Err errors.SchemaDiffers) e (inr told) = inr (inr told)
+  due (Err errors.DiskFault) e told =
+      subst IsAnswer (sym told) (inr (inl (inl (inl (rose_later _ _ _ disk_later (run.disk_fault e))))))
+  due (Err errors.OutFault) e told =
+      let over = over_bound e in
+      subst IsAnswer (sym told) (inr (inl (inr (run_of store stored over.database over.bound,
+      passes over.database over.bound over.reads over.binds,
+      inl (subst (λ (n : ℕ). Rose n work.counts_after.say_faults) say_same (run.out_fault e))))))
+  due (Err errors.Memory) e told = inr (inr told)
 
-  complete : IsTrue work.tells → (database bound : List Bound) → ReadsOver name work stored database bound →
-      (Rose work.counts_before.disk_faults work.counts_after.disk_faults → ⊥) → (Rose work.counts_before.say_faults work.counts_after.say_faults → ⊥) →
-      IsDueAnswer (whole_run stored bound (now work.before).input).stands answer ⊎ (answer ≡ status.Memory)
-  complete told database bound over no_disk no_say =
-      due (whole_run stored bound (now work.before).input).stands
-      (subst (λ (input : List ℕ). IsDue (whole_run stored bound input).stands result) (same_input told)
-      (run.complete told database bound (reads_here told database over.reads) over.binds
-      (λ rose. no_disk (rose_later _ _ _ disk_later rose)) (λ rose. no_say (subst (λ (n : ℕ). Rose n work.counts_after.say_faults) say_same rose))))
-
-  not_store_only : IsTrue work.tells → answer ≡ status.NotStore → HasNone name work
-  not_store_only told e =
-      inr (subst (λ (d : Store). HasHead d.log.now → ⊥) (disk told) (run.not_store told (come_as status.NotStore e)))
-
-  not_store : IsTrue work.tells → HasNone name work → IsUnlessUnopened answer status.NotStore
-  not_store told (inl e) = absurd (named e)
-  not_store told (inr none) = by_result (run.not_store_where told (subst (λ (d : Store). HasHead d.log.now → ⊥) (sym (disk told)) none))
-    where
-      by_result : (result ≡ Err errors.NotStore) ⊎ (result ≡ Err errors.DiskFault) → IsUnlessUnopened answer status.NotStore
-      by_result (inl e) = inl (subst (λ r. TellsOfRun stored r answer) e is)
-      by_result (inr e) = inr (inr (inl (subst (λ r. TellsOfRun stored r answer) e is)))
-
-  damaged_only : IsTrue work.tells → (page : ℕ) → answer ≡ status.Damaged page → (page ≡ 0) × IsDamaged name work
-  damaged_only told page e =
-      let found = run.damaged told page (come_as (status.Damaged page) e) in (
-        found.0,
-        record {
-          named = named;
-          head = subst (λ (d : Store). HasHead d.log.now) (disk told) found.1;
-          none = subst (λ (d : Store). stands d.log.now d.pages.now ≡ None) (disk told) found.2;
-        },
-      )
-
-  damaged : IsTrue work.tells → IsDamaged name work → IsUnlessUnopened answer (status.Damaged 0)
-  damaged told damage =
-      by_result (run.damaged_where told (subst (λ (d : Store). HasHead d.log.now) (sym (disk told)) damage.head)
-      (subst (λ (d : Store). stands d.log.now d.pages.now ≡ None) (sym (disk told)) damage.none))
-    where
-      by_result : (result ≡ Err (errors.Damaged 0)) ⊎ ((result ≡ Err errors.DiskFault) ⊎ (result ≡ Err errors.Memory)) → IsUnlessUnopened answer (status.Damaged 0)
-      by_result (inl e) = inl (subst (λ r. TellsOfRun stored r answer) e is)
-      by_result (inr (inl e)) = inr (inr (inl (subst (λ r. TellsOfRun stored r answer) e is)))
-      by_result (inr (inr e)) = inr (inr (inr (subst (λ r. TellsOfRun stored r answer) e is)))
-
-  differs_only : IsTrue work.tells → (other : List ℕ) → answer ≡ status.SchemaDiffers other → (other ≡ stored.relation.name) × HasOtherThere name work stored
-  differs_only told other e =
-      let err = come_as (status.SchemaDiffers other) e in
-      let found = run.differs err.0 in (
-        err.1,
-        record {
-          named = named;
-          database = found.database;
-          reads = subst (λ (d : Store). stands d.log.now d.pages.now ≡ Some found.database) (disk told) (found.stood told);
-          differs = found.differs;
-        },
-      )
-
-  differs : IsTrue work.tells → HasOtherThere name work stored → IsUnlessUnopened answer (status.SchemaDiffers stored.relation.name)
-  differs told found =
-      by_result (run.differs_where told found.database
-      (subst (λ (d : Store). stands d.log.now d.pages.now ≡ Some found.database) (sym (disk told)) found.reads) found.differs)
-    where
-      by_answer : (answer ≡ status.SchemaDiffers stored.relation.name) ⊎ (answer ≡ status.Memory) → IsUnlessUnopened answer (status.SchemaDiffers stored.relation.name)
-      by_answer (inl e) = inl e
-      by_answer (inr e) = inr (inr (inr e))
-
-      by_result : (result ≡ Err errors.SchemaDiffers) ⊎ ((result ≡ Err errors.DiskFault) ⊎ (result ≡ Err errors.Memory)) → IsUnlessUnopened answer (status.SchemaDiffers stored.relation.name)
-      by_result (inl e) = by_answer (subst (λ r. TellsOfRun stored r answer) e is)
-      by_result (inr (inl e)) = inr (inr (inl (subst (λ r. TellsOfRun stored r answer) e is)))
-      by_result (inr (inr e)) = inr (inr (inr (subst (λ r. TellsOfRun stored r answer) e is)))
-
-  unrun : IsTrue work.tells → IsUnrun answer → EachMoment (LeavesOnlyAt name (IsLeft (store_of (now work.before) name) (now work.before).said)) work.before work.after
-  unrun told quiet = left_there name work.before mid (mount told) work.after (refused result answer is quiet (run.refused told))
-    where
-      refused : (r : Result (Unit {0}) StopErr) (a : Status) → TellsOfRun stored r a → IsUnrun a →
-          IfErr r (λ why. IsRefusal why → EachMoment (LeavesOld (now mid)) mid work.after) → EachMoment (LeavesOld (now mid)) mid work.after
-      refused (Ok _) a is quiet left = absurd (subst IsUnrun is quiet)
-      refused (Err (errors.Trapped trap)) a is quiet left = absurd (subst IsUnrun is quiet)
-      refused (Err errors.NotStore) a is quiet left = left tt
-      refused (Err (errors.Damaged page)) a is quiet left = left tt
-      refused (Err errors.SchemaDiffers) a is quiet left = left tt
-      refused (Err errors.DiskFault) a is quiet left = absurd (subst IsUnrun is quiet)
-      refused (Err errors.OutFault) a is quiet left = absurd (subst IsUnrun is quiet)
-      refused (Err errors.Memory) a is quiet left = absurd (subst IsUnrun is quiet)
-
-  unbound : IsTrue work.tells → ((database bound : List Bound) → ReadsOver name work stored database bound → ⊥) →
-      EachMoment (LeavesOnlyAt name (IsLeft (store_of (now work.before) name) (now work.before).said)) work.before work.after
-  unbound told none =
-      left_there name work.before mid (mount told) work.after (run.unbound told (λ database bound reads binds.
-      none database bound (record {
-        reads = subst (λ (d : Store). stands d.log.now d.pages.now ≡ Some database) (disk told) reads;
-        binds = binds;
-      })))
-
-  only : IsTrue work.tells → EachMoment (ChangesOnly name (now work.before)) work.before work.after
-  only told =
-      moments_mounted name work.before mid (mount told) (ChangesOnly name (now work.before)) work.after (changes_first name (now work.before))
-      (moments_weaken (ChangesStore (now mid)) (ChangesOnly name (now work.before)) mid work.after
-      (λ s changes. changes_there name work.before mid (mount told) s (ap (λ (t : State). t.input) changes.others)
-      (ap (λ (t : State). t.mounted) changes.others) (ap (λ (t : State). t.others) changes.others) changes.pages)
-      (run.only told))
-
-  said_well : (answer ≡ status.OutFault) ⊎ (work.counts_after.say_faults ≡ work.counts_before.say_faults)
-  said_well = by_result run.out_fault_where
+  printed_well : (answer ≡ status.OutFault) ⊎ (work.counts_after.say_faults ≡ work.counts_before.say_faults)
+  printed_well = by_result run.out_fault_where
     where
       by_result : (result ≡ Err errors.OutFault) ⊎ (work.counts_after.say_faults ≡ counts_mid.say_faults) →
           (answer ≡ status.OutFault) ⊎ (work.counts_after.say_faults ≡ work.counts_before.say_faults)
       by_result (inl e) = inl (subst (λ r. TellsOfRun stored r answer) e is)
       by_result (inr fine) = inr (fine ∙ say_same)
 
-  pub runs_stored : RunsStored name stored work answer
-  runs_stored = record {
-    answers = run_answer stored result answer (has_come stored result answer is);
-    headline = headline;
-    done = done;
-    trapped = trapped;
-    complete = λ told database bound over other no_shelf no_disk no_say. complete told database bound over no_disk no_say;
-    not_store_only = not_store_only;
-    not_store = not_store;
-    damaged_only = damaged_only;
-    damaged = damaged;
-    differs_only = differs_only;
-    differs = differs;
-    unrun = unrun;
-    unbound = unbound;
-    unnamed = λ none. absurd (named none);
-    only = only;
-    source_fault = λ e. absurd (come_as status.SourceFault e);
-    disk_fault = λ e. rose_later _ _ _ disk_later (run.disk_fault (come_as status.DiskFault e));
-    out_fault = λ e. subst (λ (n : ℕ). Rose n work.counts_after.say_faults) say_same (run.out_fault (come_as status.OutFault e));
-    out_fault_where = said_well;
+  -- ---- each moment
+
+  -- the events over the input before
+  prefix : IsTrue work.tells → (bound : List Bound) (events rest : List Event) → events_of stored bound (now mid).input ≡ events ++ rest →
+      events_of stored bound (now work.before).input ≡ events ++ rest
+  prefix told bound events rest is = ap (λ (i : List ℕ). events_of stored bound i) (sym (input told)) ∙ is
+
+  has_made : IsTrue work.tells → (database bound : List Bound) (events : List Event) (found : Option (List Bound)) (bytes : List ℕ) →
+      bytes ≡ (now mid).said ++ prints events → found ≡ Some (last events database) →
+      HasMade (run_of store stored database bound) (now work.before) events found bytes
+  has_made told database bound events found bytes printed is = record {
+    printed = printed ∙ ap (λ (before : List ℕ). before ++ prints events) (said told);
+    stored = is;
   }
+
+  tied_run_of : IsTrue work.tells → (database bound : List Bound) → Binds stored.relation database bound →
+      StoodFor (run_of store stored database bound) (now work.before) →
+      EachMoment (Leaves (Some store) (IsTied (run_of store stored database bound) (now work.before))) work.before work.after
+  tied_run_of told database bound binds stood =
+      moments_mounted store work.before mid (mount told) (Leaves (Some store) (IsTied (run_of store stored database bound) (now work.before))) work.after
+      (tied_here (run_of store stored database bound) (now work.before) stood)
+      (moments_weaken (LeavesTied (events_of stored bound (now mid).input) database (now mid)) _ mid work.after
+      (λ s tied. at_name told (IsTied (run_of store stored database bound) (now work.before)) s tied.others (λ log pages log_left pages_left.
+      let of = tied.left log pages log_left pages_left in
+      record {
+        made = of.made;
+        may = (turns_of stored, (of.rest, prefix told bound of.made of.rest of.prefix));
+        has = has_made told database bound of.made (stands log pages) s.said of.printed of.stored;
+      }))
+      (run.headline told database bound (stands_here told database bound stood) binds))
+
+  -- what a moment is asked about
+  record IsAsked : Type 0 where
+    asked : Run
+    told : IsTold work
+    passes_with : (over_store store stored).passes work asked
+    stood : StoodFor asked (now work.before)
+
+  tied_for : (x : IsAsked) → EachMoment (Leaves x.asked.store (IsTied x.asked (now work.before))) work.before work.after
+  tied_for x =
+      let found = found_over store stored work x.asked x.passes_with in
+      subst (λ (r : Run). EachMoment (Leaves r.store (IsTied r (now work.before))) work.before work.after) (sym found.is)
+      (tied_run_of x.told.world found.database found.bound found.binds (subst (λ (r : Run). StoodFor r (now work.before)) found.is x.stood))
+
+  untouched : IsTrue work.tells → (s : State) → LeavesOld (now mid) s → IsUntouched (now work.before) s
+  untouched told s left =
+      untouched_there store (now work.before) s (since told s (only_disk (now mid) s left.others))
+      (ap (λ (t : State). t.said) left.others ∙ said told)
+      (λ bytes image. subst (λ (d : Store). IsImage d.log bytes) (disk told) (left.log bytes image))
+      (λ bytes image. subst (λ (d : Store). IsImage d.pages bytes) (disk told) (left.pages bytes image))
+
+  idle_moments : IsTrue work.tells → EachMoment (LeavesOld (now mid)) mid work.after →
+      EachMoment (IsUntouched (now work.before)) work.before work.after
+  idle_moments told old =
+      moments_mounted store work.before mid (mount told) (IsUntouched (now work.before)) work.after (untouched_here (now work.before))
+      (moments_weaken (LeavesOld (now mid)) (IsUntouched (now work.before)) mid work.after (untouched told) old)
+
+  idle_for : IsTrue work.tells → RunsNothing (over_store store stored) work ⊎ IsTrue (is_refusal answer) →
+      EachMoment (IsUntouched (now work.before)) work.before work.after
+  idle_for told (inl none) =
+      idle_moments told (run.unbound told (λ database bound reads binds.
+      none (run_of store stored database bound) (passes database bound (λ tells. reads) binds)))
+  idle_for told (inr refuses) = idle_moments told (on_refusal stored result answer is refuses (run.refused told))
+
+  same_input : IsTrue work.tells → (s : State) → ChangesStore (now mid) s → s.input ≡ (now work.before).input
+  same_input told s changes = ap (λ (t : State). t.input) changes.others ∙ input told
+
+  inputs : IsTrue work.tells → EachMoment (λ s. s.input ≡ (now work.before).input) work.before work.after
+  inputs told =
+      moments_mounted store work.before mid (mount told) (λ s. s.input ≡ (now work.before).input) work.after refl
+      (moments_weaken (ChangesStore (now mid)) (λ s. s.input ≡ (now work.before).input) mid work.after (same_input told) (run.only told))
+
+  abbrev IsTiedNow : State → Type 0
+  IsTiedNow s = (x : IsAsked) → Leaves x.asked.store (IsTied x.asked (now work.before)) s
+
+  abbrev IsIdle : State → Type 0
+  IsIdle s = RunsNothing (over_store store stored) work ⊎ IsTrue (is_refusal answer) → IsUntouched (now work.before) s
+
+  abbrev HasSameInput : State → Type 0
+  HasSameInput s = s.input ≡ (now work.before).input
+
+  may_run : (s : State) → IsTiedNow s × (IsIdle s × HasSameInput s) → MayRun (over_store store stored) work answer s
+  may_run s holds = record {
+    tied = λ also asked passes_with stood.
+        holds.0 (record { asked = asked; told = also; passes_with = passes_with; stood = stood });
+    idle = λ why. holds.1.0 why;
+    input = holds.1.1;
+  }
+
+  moments : IsTrue work.tells → EachMoment (MayRun (over_store store stored) work answer) work.before work.after
+  moments told =
+      let tied = moments_all (λ (x : IsAsked) (s : State). Leaves x.asked.store (IsTied x.asked (now work.before)) s) HasSameInput
+          work.before work.after (inputs told) tied_for in
+      let idle = moments_all (λ (why : RunsNothing (over_store store stored) work ⊎ IsTrue (is_refusal answer)) (s : State). IsUntouched (now work.before) s)
+          HasSameInput work.before work.after (inputs told) (idle_for told) in
+      moments_weaken (λ s. IsTiedNow s × (IsIdle s × HasSameInput s)) (MayRun (over_store store stored) work answer) work.before work.after may_run
+      (moments_both IsTiedNow (λ s. IsIdle s × HasSameInput s) work.before work.after tied
+      (moments_both IsIdle HasSameInput work.before work.after idle (inputs told)))
+
+  only : IsTrue work.tells → EachMoment (LeavesAlone ((over_store store stored >>= ended).mounts work) (now work.before)) work.before work.after
+  only told =
+      moments_mounted store work.before mid (mount told) (LeavesAlone ((over_store store stored >>= ended).mounts work) (now work.before))
+      work.after (alone_here ((over_store store stored >>= ended).mounts work) (now work.before))
+      (moments_weaken (ChangesStore (now mid)) _ mid work.after
+      (λ s changes. alone_there store (now work.before) s (since told s changes.others) ((over_store store stored >>= ended).mounts work)
+      (inl (inl refl)) (subst (λ (d : Store). IsSynced d.pages s.disk.pages) (disk told) changes.pages))
+      (run.only told))
+
+  -- ---- the end
+
+  changes : IsTrue work.tells → ChangesStore (now mid) (now work.after)
+  changes told = moments_last (ChangesStore (now mid)) mid work.after (run.only told)
+
+  -- how the meaning over the store's database stands
+  stands_so : IsTrue work.tells → (database bound : List Bound) → ran.ReadsAs database (now mid) → Binds stored.relation database bound →
+      (standing : Standing) → ran.HasRun stored standing work.tells mid work.after → (whole_run stored bound (now work.before).input).stands ≡ standing
+  stands_so told database bound reads binds standing has =
+      let both : Some has.database ≡ Some database = sym (has.stood told) ∙ reads in
+      let same : has.database ≡ database = cc (both) in
+      let also = subst (λ (d : List Bound). Binds stored.relation d has.bound) same has.binds in
+      ap (λ (b : List Bound). (whole_run stored b (now work.before).input).stands) (binds-one stored.relation database bound has.bound binds also)
+      ∙ (ap (λ (i : List ℕ). (whole_run stored has.bound i).stands) (sym (input told)) ∙ has.ends)
+
+  whole_of : IsTrue work.tells → (database bound : List Bound) → ran.ReadsAs database (now mid) → Binds stored.relation database bound →
+      (standing : Standing) (a : Status) → IsToldBy standing a → ran.HasRun stored standing work.tells mid work.after →
+      made.HasMade (events_of stored bound (now mid).input) database (now mid) (now work.after) →
+      Leaves (Some store) (IsWhole (run_of store stored database bound) (now work.before) a (now work.after).input) (now work.after)
+  whole_of told database bound reads binds standing a told_by has all =
+      at_name told (IsWhole (run_of store stored database bound) (now work.before) a (now work.after).input) (now work.after) (changes told).others
+      (λ log pages log_left pages_left. record {
+        turns = turns_of stored;
+        ends = subst (λ (s : Standing). IsToldBy s a) (sym (stands_so told database bound reads binds standing has)) told_by;
+        has = subst (λ (i : List ℕ). HasMade (run_of store stored database bound) (now work.before) (events_of stored bound i) (stands log pages) (now work.after).said)
+            (input told)
+            (has_made told database bound (events_of stored bound (now mid).input) (stands log pages) (now work.after).said all.printed
+            (all.stored log pages log_left pages_left));
+        left_is = same_input told (now work.after) (changes told) ∙ sym (whole_left stored database bound (now work.before).input binds);
+      })
+
+  whole : IsTrue work.tells → (database bound : List Bound) → ran.ReadsAs database (now mid) → Binds stored.relation database bound →
+      (a : Status) → answer ≡ a → TellsOfEnd a →
+      Leaves (Some store) (IsWhole (run_of store stored database bound) (now work.before) a (now work.after).input) (now work.after)
+  whole told database bound reads binds status.Done e ends =
+      let ok : IsOk result = subst (EndsSo result) e (ends_so stored result answer is) in
+      whole_of told database bound reads binds Ended status.Done refl (on_ok result ok run.ended)
+      (on_ok result ok (run.whole told database bound reads binds))
+  whole told database bound reads binds (status.Trapped kind place) e ends =
+      let trap : Trap = record { kind = kind; place = place } in
+      let err : result ≡ Err (errors.Trapped trap) = subst (EndsSo result) e (ends_so stored result answer is) in
+      whole_of told database bound reads binds (Trapped trap) (status.Trapped kind place) refl (run.trapped trap err)
+      (run.whole_trapped told database bound reads binds trap err)
+  whole told database bound reads binds _ e ends = absurd ends
+
+  some_made : IsTrue work.tells → (database bound : List Bound) → Binds stored.relation database bound →
+      StoodFor (run_of store stored database bound) (now work.before) → answer ≢ status.DiskFault →
+      HasMadeSome (run_of store stored database bound) (now work.before) (now work.after)
+  some_made told database bound binds stood fine =
+      let some = run.at_rest told database bound (stands_here told database bound stood) binds
+          (λ e. fine (subst (λ (r : Result (Unit {0}) StopErr). TellsOfRun stored r answer) e is)) in
+      record {
+        made = some.made;
+        may = (turns_of stored, (some.rest, prefix told bound some.made some.rest some.prefix));
+        left = at_name told (HasMade (run_of store stored database bound) (now work.before) some.made) (now work.after) (changes told).others
+            (λ log pages log_left pages_left.
+            has_made told database bound some.made (stands log pages) (now work.after).said some.has.printed
+            (some.has.stored log pages log_left pages_left));
+      }
+
+  settled : IsTrue work.tells → (over_store store stored).refuses work answer → store_of (now work.after) store ≡ made_sure (store_before store work)
+  settled told refuses =
+      stands_there store (now work.before) (now work.after) (since told (now work.after) (changes told).others)
+      ∙ (on_refusal stored result answer is (refusal_kind answer ((over_kinds store stored).refuses work answer refuses)) (run.settled told)
+      ∙ ap (λ (d : Store). settled_store d.log.now d.pages.now) (disk told))
+
+  ends : IsTrue work.tells → EndsRun (over_store store stored) work answer (now work.after)
+  ends tells = record {
+    whole = λ told asked passes_with of_end.
+        let found = found_over store stored work asked passes_with in
+        subst (λ (r : Run). Leaves r.store (IsWhole r (now work.before) answer (now work.after).input) (now work.after)) (sym found.is)
+        (whole told.world found.database found.bound (reads_here told.world found.database (found.reads told.world)) found.binds answer refl of_end);
+    at_rest = λ told asked passes_with stood fine.
+        let found = found_over store stored work asked passes_with in
+        subst (λ (r : Run). HasMadeSome r (now work.before) (now work.after)) (sym found.is)
+        (some_made told.world found.database found.bound found.binds (subst (λ (r : Run). StoodFor r (now work.before)) found.is stood) fine);
+    settled = λ told refuses name mounts.
+        subst (λ (n : List ℕ). store_of (now work.after) n ≡ made_sure (store_before n work)) (sym (over_mounts store stored work name mounts))
+        (settled told.world refuses);
+  }
+
+  pub ran_over : Answered (running (over_store store stored)) work answer
+  ran_over = record { answers = due result refl is; moments = moments; end = ends; only = only; prints = printed_well }
 
 -- nothing was noted since before the store was mounted
 pub ran_unnoted : (mid after : History) → EachMoment (ChangesStore (now mid)) mid after → (name : List ℕ) (before : History) →
@@ -361,90 +476,3 @@ pub ran_unnoted : (mid after : History) → EachMoment (ChangesStore (now mid)) 
 ran_unnoted mid after only name before mount =
     ap (λ (t : State). t.noted) (moments_last (ChangesStore (now mid)) mid after only).others
     ∙ ap (λ (t : State). t.noted) (mounted_state name before mid mount)
-
--- ---- a command that did nothing to the world
-
--- why it was answered so: the name stands for no store, the disk or the shelf failed, or memory was wanting
-abbrev pub IsStill : List ℕ → Work → Status → Type 0
-IsStill name work status.NotStore = name ≡ no_store
-IsStill name work status.DiskFault = Rose work.counts_before.disk_faults work.counts_after.disk_faults × (name ≢ no_store)
-IsStill name work status.SourceFault = Rose work.shelf_faults_before work.shelf_faults_after
-IsStill name work status.Memory = Unit {0}
-IsStill name work _ = ⊥
-
-still_answer : (name : List ℕ) (work : Work) (answer : Status) → IsStill name work answer → IsRunAnswer answer
-still_answer name work status.NotStore why = tt
-still_answer name work status.DiskFault why = tt
-still_answer name work status.SourceFault why = tt
-still_answer name work status.Memory why = tt
-still_answer name work _ why = absurd why
-
--- but for a name that stands for no store a fault or want of memory came first
-unless_named : (name : List ℕ) (work : Work) (answer due : Status) → IsStill name work answer → name ≢ no_store → IsUnlessUnopened answer due
-unless_named name work status.NotStore due why named = absurd (named why)
-unless_named name work status.DiskFault due why named = inr (inr (inl refl))
-unless_named name work status.SourceFault due why named = inr (inl refl)
-unless_named name work status.Memory due why named = inr (inr (inr refl))
-unless_named name work _ due why named = absurd why
-
-still_not_store : (name : List ℕ) (work : Work) (answer : Status) → IsStill name work answer → IsUnlessUnopened answer status.NotStore
-still_not_store name work status.NotStore why = inl refl
-still_not_store name work status.DiskFault why = inr (inr (inl refl))
-still_not_store name work status.SourceFault why = inr (inl refl)
-still_not_store name work status.Memory why = inr (inr (inr refl))
-still_not_store name work _ why = absurd why
-
-still_complete : (name : List ℕ) (work : Work) (answer : Status) (standing : Standing) → IsStill name work answer → name ≢ no_store →
-    (Rose work.shelf_faults_before work.shelf_faults_after → ⊥) → (Rose work.counts_before.disk_faults work.counts_after.disk_faults → ⊥) →
-    IsDueAnswer standing answer ⊎ (answer ≡ status.Memory)
-still_complete name work status.NotStore standing why named no_shelf no_disk = absurd (named why)
-still_complete name work status.DiskFault standing why named no_shelf no_disk = absurd (no_disk why.0)
-still_complete name work status.SourceFault standing why named no_shelf no_disk = absurd (no_shelf why)
-still_complete name work status.Memory standing why named no_shelf no_disk = inr refl
-still_complete name work _ standing why named no_shelf no_disk = absurd why
-
-pub still_left : (name : List ℕ) (work : Work) → (IsTrue work.tells → work.after ≡ work.before) → IsTrue work.tells →
-    EachMoment (LeavesOnlyAt name (IsLeft (store_of (now work.before) name) (now work.before).said)) work.before work.after
-still_left name work still told =
-    subst (λ (h : History). EachMoment (LeavesOnlyAt name (IsLeft (store_of (now work.before) name) (now work.before).said)) work.before h)
-    (sym (still told)) (not_left name work.before)
-
-module _ (name : List ℕ) (stored : StoredProgram) (work : Work) (answer : Status) (still : IsTrue work.tells → work.after ≡ work.before)
-    (unsaid : work.counts_after.say_faults ≡ work.counts_before.say_faults) where
-  -- at the one moment that there is
-  one_moment : (Q : State → Type 0) → IsTrue work.tells → Q (now work.before) → EachMoment Q work.before work.after
-  one_moment Q told holds = subst (λ (h : History). EachMoment Q work.before h) (sym (still told)) (moments_start Q work.before holds)
-
-  -- why this answer came
-  still_as : IsStill name work answer → (due : Status) → answer ≡ due → IsStill name work due
-  still_as why due e = subst (IsStill name work) e why
-
-  pub still_runs : IsStill name work answer → RunsStored name stored work answer
-  still_runs why = record {
-    answers = still_answer name work answer why;
-    headline = λ told database bound over.
-        one_moment (LeavesOnlyAt name (HasMadePrefix (events_of stored bound (now work.before).input) database (now work.before).said)) told (λ log pages log_left pages_left. record {
-          made = [];
-          rest = events_of stored bound (now work.before).input;
-          prefix = refl;
-          printed = sym (append-nil (now work.before).said);
-          stored = over.stands_for log pages log_left pages_left;
-        });
-    done = λ told database bound over e. absurd (still_as why status.Done e);
-    trapped = λ told database bound over trap e. absurd (still_as why (status.Trapped trap.kind trap.place) e);
-    complete = λ told database bound over named no_shelf no_disk no_say. still_complete name work answer (whole_run stored bound (now work.before).input).stands why named no_shelf no_disk;
-    not_store_only = λ told e. inl (still_as why status.NotStore e);
-    not_store = λ told none. still_not_store name work answer why;
-    damaged_only = λ told page e. absurd (still_as why (status.Damaged page) e);
-    damaged = λ told damage. unless_named name work answer (status.Damaged 0) why damage.named;
-    differs_only = λ told other e. absurd (still_as why (status.SchemaDiffers other) e);
-    differs = λ told found. unless_named name work answer (status.SchemaDiffers stored.relation.name) why found.named;
-    unrun = λ told quiet. still_left name work still told;
-    unbound = λ told none. still_left name work still told;
-    unnamed = λ none. (still_notes work still, λ e. (still_as why status.DiskFault e).1 none);
-    only = λ told. one_moment (ChangesOnly name (now work.before)) told (changes_first name (now work.before));
-    source_fault = λ e. still_as why status.SourceFault e;
-    disk_fault = λ e. (still_as why status.DiskFault e).0;
-    out_fault = λ e. absurd (still_as why status.OutFault e);
-    out_fault_where = inr unsaid;
-  }

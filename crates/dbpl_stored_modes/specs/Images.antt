@@ -2,7 +2,7 @@
 use Rattle.std.specs.Prelude.{◌≡◌, ℕ, List, Some}
 use Rattle.dbpl_store.specs.Stands.{stands}
 use Rattle.dbpl_value.specs.declared.bound.Bound.{Bound}
-use Rattle.dbpl_world.specs.History.{State, Store, store_of}
+use Rattle.dbpl_world.specs.History.{State, store_of}
 use Rattle.dbpl_world.specs.Images.{IsImage}
 
 -- each image of the store of this name
@@ -13,13 +13,3 @@ EachImage name s P =
 -- each image of it stands for this database
 abbrev pub StandsThere : List ℕ → State → List Bound → Type 0
 StandsThere name s database = EachImage name s (λ log pages. stands log pages ≡ Some database)
-
--- what a read gives of it stands for this database
-abbrev pub ReadsThere : List ℕ → State → List Bound → Type 0
-ReadsThere name s database = stands (store_of s name).log.now (store_of s name).pages.now ≡ Some database
-
--- Nothing more was said than these bytes, and the parts are what a stop could leave of a store.
-pub record IsLeft (store : Store) (before log pages said : List ℕ) : Type 0 where
-  pub log_left : IsImage store.log log
-  pub pages_left : IsImage store.pages pages
-  pub said_is : said ≡ before

@@ -1,8 +1,6 @@
 pub mod CreateCommand
 pub mod Creating
 pub mod Images
-pub mod Leaving
 pub mod Reading
 pub mod RunCommand
-pub mod Runs
-pub mod StoredRuns
+pub mod Telling

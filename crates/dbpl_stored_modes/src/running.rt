@@ -5,7 +5,7 @@ ghost use Rattle.dbpl_promise.specs.Promises.{Answered};
 ghost use Rattle.dbpl_promise.specs.Running.{running};
 ghost use Rattle.dbpl_promise.specs.Work.{work_in};
 ghost use Rattle.dbpl_stored_modes.specs.RunCommand.{runs_program};
-ghost use Rattle.dbpl_stored_modes.specs.StoredRuns.{TellsOfRun};
+ghost use Rattle.dbpl_stored_modes.specs.Telling.{TellsOfRun};
 ghost use Rattle.dbpl_stored_run.specs.Leaving.{OnlyRunFaults};
 ghost use Rattle.dbpl_world.specs.Files.{Files};
 ghost use Rattle.dbpl_world.specs.History.{now};

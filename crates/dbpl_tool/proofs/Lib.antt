@@ -1,3 +1,4 @@
-pub mod Headline
+pub mod Following
 pub mod Noting
+pub mod OneAnswer
 pub mod Requests

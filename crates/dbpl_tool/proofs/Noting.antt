@@ -1,16 +1,27 @@
 -- The report behind the work.
-use Rattle.std.proofs.Common.{◌≡◌, ◌∙◌, ◌≤◌, ℕ, List, ◌++◌, IsTrue, OnErr, OnOk, Ok, Err, Result, ap, inl, inr, map, refl, subst, sym, take}
+use Rattle.std.proofs.Common.{◌≡◌, ◌∙◌, ◌≤◌, ℕ, List, [], ◌++◌, Bool, IsTrue, OnErr, OnOk, Ok, Err, Result, ap, false, inl, inr, map, refl, subst, sym, take, true}
+use Rattle.dbpl_alone.specs.Command.{runs_alone}
 use Rattle.dbpl_base.specs.Report.{report}
 use Rattle.dbpl_base.specs.declared.status.Status.{Status}
-use Rattle.dbpl_sources.proofs.Noting.{IsNotedBehind}
-use Rattle.dbpl_sources.specs.Work.{Work}
+use Rattle.dbpl_core.specs.Outcomes.{TellsOfEnd}
+use Rattle.dbpl_promise.proofs.Headline as law
+use Rattle.dbpl_promise.specs.Promises.{Answered}
+use Rattle.dbpl_promise.specs.Runs.{IsTiedThroughout, IsWholeFromThen, Run as Running, StoodFor}
+use Rattle.dbpl_promise.specs.Work.{IsTold, Work}
+use Rattle.dbpl_stored_modes.specs.RunCommand.{runs_over}
 use Rattle.dbpl_stored_run.specs.Leaving.{OnlyRunFaults}
-use Rattle.dbpl_tool.specs.Notes.{NotedSince, OnlyCommandFaults, Reports}
+use Rattle.dbpl_tool.specs.Commands.{IsReported, promise_of}
+use Rattle.dbpl_tool.specs.Notes.{NotesReport, OnlyCommandFaults, Reports}
+use Rattle.dbpl_words.specs.Asked.{Asked, Create, Run, RunAlone}
 use Rattle.dbpl_world.proofs.Replays.{now-more, replay-noted}
 use Rattle.dbpl_world.specs.Counts.{OnlyNoteFaults, Rose}
 use Rattle.dbpl_world.specs.History.{History, Noted, State, more, now}
 use Rattle.dbpl_world.specs.declared.counts.Counts.{Counts}
 use Rattle.dbpl_world.specs.declared.failed.Failed.{Failed}
+
+-- the work with its report noted behind it
+abbrev pub reported : Work → History → Counts → Work
+reported work after counts = record work { after = after; counts_after = counts }
 
 -- what is known of the report that was noted
 pub record Notes (work : Work) (after : History) (counts : Counts) (status : Status) : Type 0 where
@@ -21,41 +32,54 @@ pub record Notes (work : Work) (after : History) (counts : Counts) (status : Sta
   pub ok : IsTrue work.tells → OnOk result (after ≡ more work.after (map Noted (report status)))
   pub err : IsTrue work.tells → OnErr result ((n : ℕ) × (after ≡ more work.after (map Noted (take n (report status)))))
 
+-- the bytes that were noted
+pub record IsNoted (work : Work) (after : History) (counts : Counts) (status : Status) : Type 0 where
+  pub noted : List ℕ
+  pub reports : Reports work.counts_after counts status noted
+  pub behind : IsTrue work.tells → after ≡ more work.after (map Noted noted)
+
 module _ (work : Work) (after : History) (counts : Counts) (status : Status) where
+  noted_by : (tells : Bool) → work.tells ≡ tells → (result : Result (Unit {0}) Failed) →
+      OnErr result (Rose work.counts_after.note_faults counts.note_faults) →
+      (IsTrue work.tells → OnOk result (after ≡ more work.after (map Noted (report status)))) →
+      (IsTrue work.tells → OnErr result ((n : ℕ) × (after ≡ more work.after (map Noted (take n (report status)))))) →
+      IsNoted work after counts status
+  noted_by tells telling (Ok done) cause all some = record { noted = report status; reports = inl refl; behind = all }
+  noted_by true telling (Err why) cause all some =
+      let front = some telling in
+      record { noted = take front.0 (report status); reports = inr (front.0, refl, cause); behind = λ told. front.1 }
+  noted_by false telling (Err why) cause all some =
+      record { noted = []; reports = inr (0, refl, cause); behind = λ told. absurd (cc (telling, told)) }
+
+  pub is_noted : Notes work after counts status → IsNoted work after counts status
+  is_noted notes = noted_by work.tells refl notes.result notes.cause notes.ok notes.err
+
   -- no note failed while the work was done
   same_notes : OnlyRunFaults work.counts_before work.counts_after → work.counts_after.note_faults ≡ work.counts_before.note_faults
   same_notes did = ap (λ (c : Counts). c.note_faults) did.others
 
-  -- the bytes that were noted
-  noted_by : (result : Result (Unit {0}) Failed) → OnlyRunFaults work.counts_before work.counts_after → OnErr result (Rose work.counts_after.note_faults counts.note_faults) →
-      OnOk result (after ≡ more work.after (map Noted (report status))) →
-      OnErr result ((n : ℕ) × (after ≡ more work.after (map Noted (take n (report status))))) →
-      (bytes : List ℕ) × Reports work.counts_before counts status bytes × (after ≡ more work.after (map Noted bytes))
-  noted_by (Ok value) did cause all some = (report status, inl refl, all)
-  noted_by (Err error) did cause all some =
-      (take some.0 (report status), inr (some.0, refl, subst (λ (n : ℕ). Rose n counts.note_faults) (same_notes did) cause), some.1)
+  reports_since : OnlyRunFaults work.counts_before work.counts_after → (noted : List ℕ) → Reports work.counts_after counts status noted →
+      Reports work.counts_before counts status noted
+  reports_since did noted (inl all) = inl all
+  reports_since did noted (inr (count, is, rose)) = inr (count, is, subst (λ (n : ℕ). Rose n counts.note_faults) (same_notes did) rose)
 
-  noted_bytes : Notes work after counts status → IsTrue work.tells →
-      (bytes : List ℕ) × Reports work.counts_before counts status bytes × (after ≡ more work.after (map Noted bytes))
-  noted_bytes notes told = noted_by notes.result notes.did notes.cause (notes.ok told) (notes.err told)
-
-  pub noted_behind : Notes work after counts status → IsNotedBehind work after counts
-  noted_behind notes = record {
-    notes = λ told. let bytes = noted_bytes notes told in (bytes.0, bytes.2);
-    only = notes.only;
-  }
-
-  pub noted_since : Notes work after counts status → IsTrue work.tells → (now work.after).noted ≡ (now work.before).noted →
-      NotedSince (now work.before).noted (Reports work.counts_before counts status) (now after)
-  noted_since notes told same =
-      let bytes = noted_bytes notes told in
+  pub noted_since : Notes work after counts status → (IsTrue work.tells → (now work.after).noted ≡ (now work.before).noted) →
+      NotesReport (reported work after counts) status
+  noted_since notes same told =
+      let is = is_noted notes in
       record {
-        noted = bytes.0;
-        is = ap (λ (h : History). (now h).noted) bytes.2
-            ∙ ap (λ (s : State). s.noted) (now-more work.after (map Noted bytes.0) ∙ replay-noted (now work.after) bytes.0)
-            ∙ ap (λ (noted : List ℕ). noted ++ bytes.0) same;
-        holds = bytes.1;
+        noted = is.noted;
+        is = ap (λ (h : History). (now h).noted) (is.behind told)
+            ∙ (ap (λ (s : State). s.noted) (now-more work.after (map Noted is.noted) ∙ replay-noted (now work.after) is.noted)
+            ∙ ap (λ (noted : List ℕ). noted ++ is.noted) (same told));
+        holds = reports_since notes.did is.noted is.reports;
       }
+
+  -- where the work did nothing, only notes were made
+  pub notes_alone : Notes work after counts status → work.after ≡ work.before → IsTrue work.tells →
+      (bytes : List ℕ) × (after ≡ more work.before (map Noted bytes))
+  notes_alone notes same told =
+      let is = is_noted notes in (is.noted, is.behind told ∙ ap (λ (h : History). more h (map Noted is.noted)) same)
 
   pub all_counts : Notes work after counts status → OnlyCommandFaults work.counts_before counts
   all_counts notes = by_both work.counts_before work.counts_after counts notes.did notes.only
@@ -72,3 +96,40 @@ module _ (work : Work) (after : History) (counts : Counts) (status : Status) whe
             note_later = subst (λ (n : ℕ). n ≤ new.note_faults) (ap (λ (c : Counts). c.note_faults) did.others) only.later;
             disk_later = subst (λ (n : ℕ). old.disk_faults ≤ n) disk did.disk_later;
           }
+
+  -- ---- what was promised, and the headline, with the report behind
+
+  pub is_reported : (asked : Asked) → Answered (promise_of asked) work status → Notes work after counts status →
+      IsReported (Answered (promise_of asked)) (reported work after counts) status
+  is_reported asked did notes =
+      let is = is_noted notes in
+      record {
+        between = work.after;
+        counts_between = work.counts_after;
+        noted = is.noted;
+        did = did;
+        reports = is.reports;
+        counts = notes.only;
+        behind = is.behind;
+      }
+
+  module _ (notes : Notes work after counts status) (told : IsTold work) (run : Running) where
+    pub headline_of : (asked : Asked) → Answered (promise_of asked) work status → (promise_of asked).runs (reported work after counts) run →
+        StoodFor run (now work.before) → IsTiedThroughout run (reported work after counts)
+    headline_of (RunAlone file) did runs stood =
+        let is = is_noted notes in
+        law.headline (runs_alone file) work status did told run runs after counts is.noted (is.behind told.world) stood
+    headline_of (Create store) did runs stood = absurd runs
+    headline_of (Run store schema program) did runs stood =
+        let is = is_noted notes in
+        law.headline (runs_over store schema program) work status did told run runs after counts is.noted (is.behind told.world) stood
+
+    pub whole_of : (asked : Asked) → Answered (promise_of asked) work status → (promise_of asked).runs (reported work after counts) run →
+        TellsOfEnd status → IsWholeFromThen run (reported work after counts) status
+    whole_of (RunAlone file) did runs ends =
+        let is = is_noted notes in
+        law.whole (runs_alone file) work status did told run runs after counts is.noted (is.behind told.world) ends
+    whole_of (Create store) did runs ends = absurd runs
+    whole_of (Run store schema program) did runs ends =
+        let is = is_noted notes in
+        law.whole (runs_over store schema program) work status did told run runs after counts is.noted (is.behind told.world) ends

@@ -1,4 +1,3 @@
 pub mod Commands
 pub mod Next
 pub mod Notes
-pub mod Wholes

@@ -1,86 +1,44 @@
--- Each return has its cause, and the rows follow from it.
-use Rattle.std.proofs.Common.{inl, inr, refl}
-use Rattle.dbpl_alone.proofs.Causes.{cut_off, not_read, printed, still, unread}
-use Rattle.dbpl_alone.proofs.Moments.{unnoted}
-use Rattle.dbpl_alone.proofs.Rows.{rows}
+-- Each return kept the promise.
+use Rattle.std.proofs.Common.{arith, refl}
+use Rattle.dbpl_alone.proofs.Printing.{printed_all, printed_some, unnoted}
+use Rattle.dbpl_alone.proofs.Stages.{behind_fetch, unaccepted, unfetched}
 use Rattle.dbpl_alone.proofs.running.run_alone.Goals as goal
-use Rattle.dbpl_sources.specs.Texts.{MayHave}
-use Rattle.dbpl_sources.specs.Work.{Work}
+use Rattle.dbpl_promise.specs.Work.{work_of}
 
 pub returns-in-Err-clause-runs : goal.returns-in-Err-clause-runs
 returns-in-Err-clause-runs g c =
-    let work : Work = record {
-      files = g.S.Shelf.files c.args.shelf.now;
-      shelf_faults_before = g.S.Shelf.shelf_faults c.args.shelf.now;
-      shelf_faults_after = g.S.Shelf.shelf_faults c.source.new.shelf;
-      tells = g.W.World.tells;
-      before = g.W.World.history c.args.world.now;
-      after = g.W.World.history c.args.world.now;
-      counts_before = g.W.World.counts c.args.world.now;
-      counts_after = g.W.World.counts c.args.world.now;
-    } in
-    rows c.args.file.now work c.in-Err.status (unread c.args.file.now work c.in-Err.status c.in-Err.ensures.err (still work refl))
-    (inr refl)
+    let work = work_of g.S.Shelf g.W.World c.args.shelf.now c.source.new.shelf c.args.world.now c.args.world.now in
+    unfetched c.args.file.now work c.in-Err.status
+    (c.in-Err.ensures.err work (record { files_are = refl; begins = omega arith; ends = omega arith }))
+    (record { world = λ tells. refl; prints = refl })
 
 pub returns-in-Err-module-clause-runs : goal.returns-in-Err-module-clause-runs
 returns-in-Err-module-clause-runs g c =
-    let work : Work = record {
-      files = g.S.Shelf.files c.args.shelf.now;
-      shelf_faults_before = g.S.Shelf.shelf_faults c.args.shelf.now;
-      shelf_faults_after = g.S.Shelf.shelf_faults c.source.new.shelf;
-      tells = g.W.World.tells;
-      before = g.W.World.history c.args.world.now;
-      after = g.W.World.history c.args.world.now;
-      counts_before = g.W.World.counts c.args.world.now;
-      counts_after = g.W.World.counts c.args.world.now;
-    } in
-    let has : MayHave work.files c.args.file.now c.in-Ok.text.items =
-    record { told = c.in-Ok.ensures.found; within = c.in-Ok.ensures.within } in
+    let work = work_of g.S.Shelf g.W.World c.args.shelf.now c.source.new.shelf c.args.world.now c.args.world.now in
+    let passes = c.in-Ok.ensures.found work (record { files_are = refl; begins = omega arith; ends = omega arith }) in
     let cause = rw c.as_slice.ensures.value at c.in-Err-module.ensures.err in
-    rows c.args.file.now work c.in-Err-module.status
-    (not_read c.args.file.now work c.in-Ok.text.items c.in-Err-module.status has cause (still work refl)) (inr refl)
+    unaccepted c.args.file.now work c.in-Err-module.status c.in-Ok.text.items passes cause
+    (record { world = λ tells. refl; prints = refl })
 
 pub returns-in-Ok-print_program-clause-runs : goal.returns-in-Ok-print_program-clause-runs
 returns-in-Ok-print_program-clause-runs g c =
-    let work : Work = record {
-      files = g.S.Shelf.files c.args.shelf.now;
-      shelf_faults_before = g.S.Shelf.shelf_faults c.args.shelf.now;
-      shelf_faults_after = g.S.Shelf.shelf_faults c.source.new.shelf;
-      tells = g.W.World.tells;
-      before = g.W.World.history c.args.world.now;
-      after = g.W.World.history c.print_program.new.world;
-      counts_before = g.W.World.counts c.args.world.now;
-      counts_after = g.W.World.counts c.print_program.new.world;
-    } in
-    let has : MayHave work.files c.args.file.now c.in-Ok.text.items =
-    record { told = c.in-Ok.ensures.found; within = c.in-Ok.ensures.within } in
+    let work = work_of g.S.Shelf g.W.World c.args.shelf.now c.source.new.shelf c.args.world.now c.print_program.new.world in
+    let passes = c.in-Ok.ensures.found work (record { files_are = refl; begins = omega arith; ends = omega arith }) in
     let the = rw c.as_slice.ensures.value at c.in-Ok-module.ensures.found in
-    rows c.args.file.now work _
-    (printed c.args.file.now work c.in-Ok.text.items c.in-Ok-module.program has the c.in-Ok-print_program.ensures.ok)
-    (inr c.in-Ok-print_program.ensures.fine)
+    behind_fetch c.args.file.now work _ c.in-Ok.text.items passes
+    (printed_all c.in-Ok.text.items work c.in-Ok-module.program the c.in-Ok-print_program.ensures.ok c.in-Ok-print_program.ensures.fine)
 
 pub returns-in-Ok-print_program-clause-unnoted : goal.returns-in-Ok-print_program-clause-unnoted
 returns-in-Ok-print_program-clause-unnoted g c = λ told. unnoted _ _ _ (c.in-Ok-print_program.ensures.ok told)
 
 pub returns-clause-runs : goal.returns-clause-runs
 returns-clause-runs g c =
-    let work : Work = record {
-      files = g.S.Shelf.files c.args.shelf.now;
-      shelf_faults_before = g.S.Shelf.shelf_faults c.args.shelf.now;
-      shelf_faults_after = g.S.Shelf.shelf_faults c.source.new.shelf;
-      tells = g.W.World.tells;
-      before = g.W.World.history c.args.world.now;
-      after = g.W.World.history c.print_program.new.world;
-      counts_before = g.W.World.counts c.args.world.now;
-      counts_after = g.W.World.counts c.print_program.new.world;
-    } in
-    let has : MayHave work.files c.args.file.now c.in-Ok.text.items =
-    record { told = c.in-Ok.ensures.found; within = c.in-Ok.ensures.within } in
+    let work = work_of g.S.Shelf g.W.World c.args.shelf.now c.source.new.shelf c.args.world.now c.print_program.new.world in
+    let passes = c.in-Ok.ensures.found work (record { files_are = refl; begins = omega arith; ends = omega arith }) in
     let the = rw c.as_slice.ensures.value at c.in-Ok-module.ensures.found in
-    rows c.args.file.now work _
-    (cut_off c.args.file.now work c.in-Ok.text.items c.in-Ok-module.program has the c.in-Err-print_program.ensures.cause
-    c.in-Err-print_program.ensures.err)
-    (inl refl)
+    behind_fetch c.args.file.now work _ c.in-Ok.text.items passes
+    (printed_some c.in-Ok.text.items work c.in-Ok-module.program the c.in-Err-print_program.ensures.err
+    c.in-Err-print_program.ensures.cause)
 
 pub returns-clause-unnoted : goal.returns-clause-unnoted
 returns-clause-unnoted g c = λ told. unnoted _ _ _ (c.in-Err-print_program.ensures.err told).1

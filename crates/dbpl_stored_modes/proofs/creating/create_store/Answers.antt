@@ -1,19 +1,24 @@
--- Each return has its cause.
-use Rattle.std.proofs.Common.{Err, ap, inl, inr, refl}
-use Rattle.dbpl_stored_modes.proofs.MadeLaw.{Made, creates_as, made_unnoted, uncreated}
+-- Each return kept the promise.
+use Rattle.std.proofs.Common.{Err, ap, inl, inr, refl, ◌∙◌}
+use Rattle.dbpl_stored_modes.proofs.MadeLaw.{Made, created_as, made_unnoted, uncreated}
 use Rattle.dbpl_stored_modes.proofs.creating.create_store.Goals as goal
 use Rattle.dbpl_world.specs.History.{now}
+use Rattle.dbpl_world.specs.declared.counts.Counts.{Counts}
 
 pub returns-in-Err-Failed-clause-created : goal.returns-in-Err-Failed-clause-created
-returns-in-Err-Failed-clause-created g c = λ files faults.
-    uncreated c.args.store.now _ _ c.in-Err-Failed.ensures.unchanged (inl (refl, c.in-Err-Failed.ensures.cause (ap Err c.in-Err-Failed.field-0-is)))
+returns-in-Err-Failed-clause-created g c = λ files before after.
+    uncreated c.args.store.now _ _
+    (record { world = c.in-Err-Failed.ensures.unchanged; prints = ap (λ (counts : Counts). counts.say_faults) c.mount.ensures.counts.others })
+    (inl (refl, c.in-Err-Failed.ensures.cause (ap Err c.in-Err-Failed.field-0-is)))
 
 pub returns-in-Err-Memory-clause-created : goal.returns-in-Err-Memory-clause-created
-returns-in-Err-Memory-clause-created g c = λ files faults.
-    uncreated c.args.store.now _ _ c.in-Err-Memory.ensures.unchanged (inr refl)
+returns-in-Err-Memory-clause-created g c = λ files before after.
+    uncreated c.args.store.now _ _
+    (record { world = c.in-Err-Memory.ensures.unchanged; prints = ap (λ (counts : Counts). counts.say_faults) c.mount.ensures.counts.others })
+    (inr refl)
 
 pub returns-clause-created : goal.returns-clause-created
-returns-clause-created g c = λ files faults.
+returns-clause-created g c = λ files before after.
     let run : Made g.W.World.tells (g.W.World.history c.mount.new.self) (g.W.World.history c.create.new.world)
     (g.W.World.counts c.mount.new.self) (g.W.World.counts c.create.new.world) c.create.result = record {
       moments = c.create.ensures.moments;
@@ -22,16 +27,16 @@ returns-clause-created g c = λ files faults.
       writes = c.create.ensures.writes;
       free = c.create.ensures.free;
       exists = c.create.ensures.exists;
-      exists_where = c.create.ensures.exists_where;
       foreign = c.create.ensures.foreign;
-      foreign_where = c.create.ensures.foreign_where;
-      refused = c.create.ensures.refused;
+      settled = c.create.ensures.settled;
       kept = c.create.ensures.kept;
       cause = c.create.ensures.cause;
     } in
-    creates_as c.args.store.now _ (g.W.World.history c.mount.new.self) (g.W.World.counts c.mount.new.self) c.create.result c.in-Ok.ensures.told
-    c.mount.ensures.counts.later run _
-    c.status_of.ensures
+    created_as c.args.store.now _ (g.W.World.history c.mount.new.self) (g.W.World.counts c.mount.new.self) c.create.result c.in-Ok.ensures.told
+    c.mount.ensures.counts.later
+    (ap (λ (counts : Counts). counts.say_faults) c.create.ensures.counts.others
+    ∙ ap (λ (counts : Counts). counts.say_faults) c.mount.ensures.counts.others)
+    run _ c.status_of.ensures
 
 pub returns-clause-unnoted : goal.returns-clause-unnoted
 returns-clause-unnoted g c = λ told. made_unnoted _ _ (c.create.ensures.writes told) c.args.store.now _ (c.in-Ok.ensures.told told)

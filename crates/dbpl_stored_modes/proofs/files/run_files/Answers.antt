@@ -1,12 +1,18 @@
--- Each return has its cause.
-use Rattle.std.proofs.Common.{refl}
-use Rattle.dbpl_stored_modes.proofs.RunsLaw.{read_runs, unread_runs}
+-- Each return kept the promise.
+use Rattle.std.proofs.Common.{arith, refl}
+use Rattle.dbpl_promise.specs.Work.{work_of}
+use Rattle.dbpl_stored_modes.proofs.Stages.{behind_files, unread}
 use Rattle.dbpl_stored_modes.proofs.files.run_files.Goals as goal
 
 pub returns-in-Ok-clause-runs : goal.returns-in-Ok-clause-runs
 returns-in-Ok-clause-runs g c =
-    read_runs c.args.store.now c.args.schema.now c.args.program.now _ _ c.in-Ok.stored c.in-Ok.ensures.found (c.run_over.ensures.runs _ _ _)
+    let work = work_of g.S.Shelf g.W.World c.args.shelf.now c.program_in.new.shelf c.args.world.now c.run_over.new.world in
+    behind_files c.args.store.now c.args.schema.now c.args.program.now work _ c.in-Ok.stored
+    (c.in-Ok.ensures.found work (record { files_are = refl; begins = omega arith; ends = omega arith })) (c.run_over.ensures.runs _ _ _)
 
 pub returns-in-Err-clause-runs : goal.returns-in-Err-clause-runs
 returns-in-Err-clause-runs g c =
-    unread_runs c.args.store.now c.args.schema.now c.args.program.now _ _ refl refl c.in-Err.ensures.err
+    let work = work_of g.S.Shelf g.W.World c.args.shelf.now c.program_in.new.shelf c.args.world.now c.args.world.now in
+    unread c.args.store.now c.args.schema.now c.args.program.now work _
+    (c.in-Err.ensures.err work (record { files_are = refl; begins = omega arith; ends = omega arith }))
+    (record { world = λ told. refl; prints = refl })

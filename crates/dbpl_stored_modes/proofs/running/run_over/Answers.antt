@@ -1,28 +1,34 @@
--- Each return has its cause.
-use Rattle.std.proofs.Common.{Err, ap}
-use Rattle.dbpl_stored_modes.proofs.RunLaw.{RanMounted, named_store, ran_unnoted, runs_stored, still_runs}
+-- Each return kept the promise.
+use Rattle.std.proofs.Common.{Err, ap, inl, inr, refl}
+use Rattle.dbpl_stored_modes.proofs.RunLaw.{RanMounted, named_store, ran_over, ran_unnoted}
+use Rattle.dbpl_stored_modes.proofs.Stages.{behind_name, unmounted}
 use Rattle.dbpl_world.specs.History.{now}
 use Rattle.dbpl_world.specs.declared.counts.Counts.{Counts}
 use Rattle.dbpl_stored_modes.proofs.running.run_over.Goals as goal
 
 pub returns-in-Err-Failed-clause-runs : goal.returns-in-Err-Failed-clause-runs
 returns-in-Err-Failed-clause-runs g c = λ files faults_before faults_after.
-    still_runs c.args.store.now c.args.program.now _ _ c.in-Err-Failed.ensures.unchanged
-    (ap (λ (counts : Counts). counts.say_faults) c.mount.ensures.counts.others) (c.in-Err-Failed.ensures.cause (ap Err c.in-Err-Failed.field-0-is), named_store c.args.store.now c.if-eq.ensures)
+    behind_name c.args.store.now c.args.program.now _ _ (named_store c.args.store.now c.if-eq.ensures)
+    (unmounted c.args.store.now c.args.program.now _ _ (inl (c.in-Err-Failed.ensures.cause (ap Err c.in-Err-Failed.field-0-is))) (record {
+      world = c.in-Err-Failed.ensures.unchanged;
+      prints = ap (λ (counts : Counts). counts.say_faults) c.mount.ensures.counts.others;
+    }))
 
 pub returns-in-Err-Memory-clause-runs : goal.returns-in-Err-Memory-clause-runs
 returns-in-Err-Memory-clause-runs g c = λ files faults_before faults_after.
-    still_runs c.args.store.now c.args.program.now _ _ c.in-Err-Memory.ensures.unchanged
-    (ap (λ (counts : Counts). counts.say_faults) c.mount.ensures.counts.others) tt
+    behind_name c.args.store.now c.args.program.now _ _ (named_store c.args.store.now c.if-eq.ensures)
+    (unmounted c.args.store.now c.args.program.now _ _ (inr refl) (record {
+      world = c.in-Err-Memory.ensures.unchanged;
+      prints = ap (λ (counts : Counts). counts.say_faults) c.mount.ensures.counts.others;
+    }))
 
 pub returns-clause-runs : goal.returns-clause-runs
 returns-clause-runs g c = λ files faults_before faults_after.
     let run : RanMounted c.args.program.now g.W.World.tells (g.W.World.history c.mount.new.self) (g.W.World.history c.run_stored.new.world)
     (g.W.World.counts c.mount.new.self) (g.W.World.counts c.run_stored.new.world) c.run_stored.result = record {
       headline = c.run_stored.ensures.headline;
-      made = c.run_stored.ensures.whole;
-      made_trapped = c.run_stored.ensures.whole_trapped;
-      complete = c.run_stored.ensures.complete;
+      whole = c.run_stored.ensures.whole;
+      whole_trapped = c.run_stored.ensures.whole_trapped;
       ended = c.run_stored.ensures.ended;
       trapped = c.run_stored.ensures.trapped;
       not_store = c.run_stored.ensures.not_store;
@@ -34,14 +40,16 @@ returns-clause-runs g c = λ files faults_before faults_after.
       disk_fault = c.run_stored.ensures.disk_fault;
       out_fault = c.run_stored.ensures.out_fault;
       out_fault_where = c.run_stored.ensures.out_fault_where;
+      at_rest = c.run_stored.ensures.at_rest;
+      settled = c.run_stored.ensures.settled;
       refused = c.run_stored.ensures.refused;
       unbound = c.run_stored.ensures.unbound;
       only = c.run_stored.ensures.only;
     } in
-    runs_stored c.args.store.now c.args.program.now _ (g.W.World.history c.mount.new.self) (g.W.World.counts c.mount.new.self) c.run_stored.result _
-    (named_store c.args.store.now c.if-eq.ensures) c.in-Ok.ensures.told c.mount.ensures.counts.later
-    (ap (λ (counts : Counts). counts.say_faults) c.mount.ensures.counts.others) run
-    c.status_of.ensures
+    behind_name c.args.store.now c.args.program.now _ _ (named_store c.args.store.now c.if-eq.ensures)
+    (ran_over c.args.store.now c.args.program.now _ (g.W.World.history c.mount.new.self) (g.W.World.counts c.mount.new.self) c.run_stored.result _
+    c.in-Ok.ensures.told c.mount.ensures.counts.later
+    (ap (λ (counts : Counts). counts.say_faults) c.mount.ensures.counts.others) run c.status_of.ensures)
 
 pub returns-clause-unnoted : goal.returns-clause-unnoted
 returns-clause-unnoted g c = λ told. ran_unnoted _ _ (c.run_stored.ensures.only told) c.args.store.now _ (c.in-Ok.ensures.told told)

@@ -1,0 +1,180 @@
+-- Two commands, one behind the other: what the first one leaves is what the second one may run over.
+use Rattle.std.proofs.Common.{◌≡◌, ◌∙◌, ◌⊎◌, ℕ, List, [], ◌++◌, Bool, IsTrue, None, Option, Some, ap, false, inl, inr, map, refl, subst, sym, true}
+use Rattle.std.specs.Prelude.{bytes_eq, if◌then◌else◌}
+use Rattle.dbpl_alone.specs.Command.{runs_alone}
+use Rattle.dbpl_base.specs.declared.status.Status.{Status}
+use Rattle.dbpl_base.specs.declared.status.Status.TheVariants as status
+use Rattle.dbpl_core.specs.Events.{last}
+use Rattle.dbpl_core.specs.Outcomes.{IsSteady as IsSteadyMeaning, Outcome, TellsOfEnd}
+use Rattle.dbpl_promise.proofs.AnswerKinds.{HasKinds, end_kind}
+use Rattle.dbpl_promise.proofs.Headline.{now_noted}
+use Rattle.dbpl_promise.proofs.Stages.{one_end}
+use Rattle.dbpl_promise.specs.Promises.{Answered}
+use Rattle.dbpl_promise.specs.Running.{ended, running}
+use Rattle.dbpl_promise.specs.Runs.{IsWhole, Leaves, Run as Running, StoodFor}
+use Rattle.dbpl_promise.specs.Stages.{IsDue, ◌>>=◌}
+use Rattle.dbpl_promise.specs.Work.{IsTold, Work}
+use Rattle.dbpl_store.specs.Stands.{stands}
+use Rattle.dbpl_stored_modes.proofs.Stages.{found_over, meaning_steady, over_all_kinds, run_of}
+use Rattle.dbpl_stored_modes.specs.CreateCommand.{creates}
+use Rattle.dbpl_stored_modes.specs.Images.{EachImage}
+use Rattle.dbpl_stored_modes.specs.RunCommand.{runs_over}
+use Rattle.dbpl_tool.specs.Commands.{Keeps, Runs, promise_of}
+use Rattle.dbpl_tool.specs.Next.{LeavesStore}
+use Rattle.dbpl_value.specs.declared.bound.Bound.{Bound}
+use Rattle.dbpl_words.specs.Asked.{Asked, Create, Run, RunAlone}
+use Rattle.dbpl_world.specs.Files.{Files}
+use Rattle.dbpl_world.specs.History.{AllReadAnImage, History, Noted, ReadsAnImage, State, Store, more, now, store_among, store_of}
+use Rattle.dbpl_world.specs.declared.counts.Counts.{Counts}
+
+-- ---- what a read gives of any store is an image of it
+
+among : (mounted : Option (List ℕ)) (disk : Store) (others : List ℕ → Store) (name : List ℕ) → ReadsAnImage disk →
+    ((other : List ℕ) → ReadsAnImage (others other)) → ReadsAnImage (store_among mounted disk others name)
+among None disk others name here there = there name
+among (Some mounted) disk others name here there = by_test (bytes_eq mounted name)
+  where
+    by_test : (test : Bool) → ReadsAnImage (if test then disk else others name)
+    by_test true = here
+    by_test false = there name
+
+reads_there : (s : State) (name : List ℕ) → AllReadAnImage s → ReadsAnImage (store_of s name)
+reads_there s name all = among s.mounted s.disk s.others name all.disk all.others
+
+-- ---- each image stands for one database
+
+-- whatever a stop leaves of the store stands for what a read of it does
+abbrev pub StandsAsRead : List ℕ → State → Type 0
+StandsAsRead name s = EachImage name s (λ log pages. stands log pages ≡ stands (store_of s name).log.now (store_of s name).pages.now)
+
+-- one claim of each image, that tells what it stands for
+one_database : (name : List ℕ) (s : State) (P : Option (List Bound) → Type 0) → ((one other : Option (List Bound)) → P one → P other → one ≡ other) →
+    AllReadAnImage s → EachImage name s (λ log pages. P (stands log pages)) → StandsAsRead name s
+one_database name s P one all each log pages log_left pages_left =
+    let reads = reads_there s name all in
+    one (stands log pages) (stands (store_of s name).log.now (store_of s name).pages.now) (each log pages log_left pages_left)
+    (each (store_of s name).log.now (store_of s name).pages.now reads.log reads.pages)
+
+-- notes leave it so
+behind_notes : (name : List ℕ) (s : State) (noted : List ℕ) → StandsAsRead name s → StandsAsRead name (record s { noted = noted })
+behind_notes name s noted stood = stood
+
+-- ---- behind the first command
+
+-- the run that came to its end
+came_to : (store schema program : List ℕ) (work : Work) (answer : Status) → TellsOfEnd answer →
+    Answered (running (runs_over store schema program)) work answer → (run : Running) × (runs_over store schema program).passes work run
+came_to store schema program work answer ends did = by_answer did.answers
+  where
+    kinds : HasKinds (runs_over store schema program)
+    kinds = over_all_kinds store schema program work
+
+    by_answer : IsDue (runs_over store schema program >>= ended) work answer
+        ⊎ ((runs_over store schema program >>= ended).fails work answer ⊎ (answer ≡ status.Memory)) →
+        (run : Running) × (runs_over store schema program).passes work run
+    by_answer (inl (inl (inl refuses))) = absurd (cc (kinds.refuses work answer refuses, end_kind answer ends))
+    by_answer (inl (inl (inr within))) = absurd within.2
+    by_answer (inl (inr (run, passes, told))) = (run, passes)
+    by_answer (inr (inl (inl fault))) = absurd (cc (kinds.fails work answer fault, end_kind answer ends))
+    by_answer (inr (inl (inr (run, passes, fault)))) = (run, passes)
+    by_answer (inr (inr memory)) = absurd (subst TellsOfEnd memory ends)
+
+-- the same of all the images that a whole run leaves
+whole_one : (store : List ℕ) (run : Running) (old : State) (answer : Status) (left : List ℕ) (said : List ℕ) →
+    ((input : List ℕ) → IsSteadyMeaning (run.means input)) → (one other : Option (List Bound)) →
+    IsWhole run old answer left one said → IsWhole run old answer left other said → one ≡ other
+whole_one store run old answer left said steady one other first second =
+    let same = one_end (run.means old.input) first.turns second.turns answer answer (steady old.input) first.ends second.ends in
+    first.has.stored ∙ (ap (λ (outcome : Outcome). Some (last outcome.events run.database)) same ∙ sym second.has.stored)
+
+after_create : (store : List ℕ) (work : Work) → IsTrue work.tells → AllReadAnImage (now work.after) → Answered (creates store) work status.Done →
+    StandsAsRead store (now work.after)
+after_create store work told all did =
+    one_database store (now work.after) (λ found. found ≡ Some []) (λ one other left right. left ∙ sym right) all ((did.end told).made refl)
+
+after_run : (store schema program : List ℕ) (work : Work) (answer : Status) → IsTold work → AllReadAnImage (now work.after) → TellsOfEnd answer →
+    Answered (running (runs_over store schema program)) work answer → StandsAsRead store (now work.after)
+after_run store schema program work answer told all ends did =
+    by_run (came_to store schema program work answer ends did)
+  where
+    by_run : (run : Running) × (runs_over store schema program).passes work run → StandsAsRead store (now work.after)
+    by_run (run, (stored, reads, (done, named, over))) =
+        let found = found_over store stored work run over in
+        let this = run_of store stored found.database found.bound in
+        let whole : Leaves run.store (IsWhole run (now work.before) answer (now work.after).input) (now work.after) =
+            (did.end told.world).whole told run (stored, reads, (done, named, over)) ends in
+        let also : Leaves (Some store) (IsWhole this (now work.before) answer (now work.after).input) (now work.after) =
+            subst (λ (r : Running). Leaves r.store (IsWhole r (now work.before) answer (now work.after).input) (now work.after)) found.is whole in
+        one_database store (now work.after) (λ one. IsWhole this (now work.before) answer (now work.after).input one (now work.after).said)
+        (whole_one store this (now work.before) answer (now work.after).input (now work.after).said (meaning_steady stored found.bound)) all also
+
+-- ---- the first command leaves the store so
+
+-- What a read gives is an image once the command is done, and so it was before its report was noted.
+read_between : (s : State) (noted : List ℕ) → AllReadAnImage (record s { noted = noted }) → AllReadAnImage s
+read_between s noted all = record { disk = all.disk; others = all.others }
+
+module _ (words : List (List ℕ)) (work : Work) (answer : Status) (told : IsTold work) (all : AllReadAnImage (now work.after)) where
+  module _ (between : History) (noted : List ℕ) (behind : work.after ≡ more between (map Noted noted)) where
+    ends_so : now work.after ≡ record (now between) { noted = (now between).noted ++ noted }
+    ends_so = now_noted between work.after noted behind
+
+    here : AllReadAnImage (now between)
+    here = read_between (now between) ((now between).noted ++ noted) (subst AllReadAnImage ends_so all)
+
+    later : (store : List ℕ) → StandsAsRead store (now between) → StandsAsRead store (now work.after)
+    later store stood =
+        subst (StandsAsRead store) (sym ends_so) (behind_notes store (now between) ((now between).noted ++ noted) stood)
+
+  pub leaves_store : (store : List ℕ) → Keeps words work answer → LeavesStore words store answer → StandsAsRead store (now work.after)
+  leaves_store store kept (inl created) =
+      let did = kept (Create store) created.0 in
+      let behind = did.behind told.world in
+      later did.between did.noted behind store
+      (after_create store (record work { after = did.between; counts_after = did.counts_between }) told.world
+      (here did.between did.noted behind)
+      (subst (Answered (creates store) (record work { after = did.between; counts_after = did.counts_between })) created.1 did.did))
+  leaves_store store kept (inr (schema, program, asks, ends)) =
+      let did = kept (Run store schema program) asks in
+      let behind = did.behind told.world in
+      later did.between did.noted behind store
+      (after_run store schema program (record work { after = did.between; counts_after = did.counts_between }) answer
+      (record { files = told.files; world = told.world }) (here did.between did.noted behind) ends did.did)
+
+-- ---- the second command runs over it
+
+-- what is run rests on the files, and on what was there before
+runs_with : (asked : Asked) (work : Work) (files : Option Files) (before after : ℕ) (new : History) (counts counts_new : Counts) (run : Running) →
+    work.files ≡ files → (promise_of asked).runs work run →
+    (promise_of asked).runs (record work { files = files; shelf_faults_before = before; shelf_faults_after = after; after = new; counts_before = counts; counts_after = counts_new }) run
+runs_with (RunAlone file) work files before after new counts counts_new run same runs =
+    subst (λ (f : Option Files). (runs_alone file).passes (record work { files = f; shelf_faults_before = before; shelf_faults_after = after; after = new; counts_before = counts; counts_after = counts_new }) run)
+    same runs
+runs_with (Create store) work files before after new counts counts_new run same runs = absurd runs
+runs_with (Run store schema program) work files before after new counts counts_new run same runs =
+    subst (λ (f : Option Files). (runs_over store schema program).passes (record work { files = f; shelf_faults_before = before; shelf_faults_after = after; after = new; counts_before = counts; counts_after = counts_new }) run)
+    same runs
+
+pub runs_over_files : (words : List (List ℕ)) (work : Work) (files : Option Files) (before after : ℕ) (new : History) (counts counts_new : Counts) (run : Running) →
+    work.files ≡ files → Runs words work run →
+    Runs words (record work { files = files; shelf_faults_before = before; shelf_faults_after = after; after = new; counts_before = counts; counts_after = counts_new }) run
+runs_over_files words work files before after new counts counts_new run same runs =
+    (runs.0, runs.1, runs_with runs.0 work files before after new counts counts_new run same runs.2)
+
+-- a run over a store that stands as it reads
+stood_by : (asked : Asked) (work : Work) (store : List ℕ) (run : Running) → IsTrue work.tells → run.store ≡ Some store →
+    (promise_of asked).runs work run → StandsAsRead store (now work.before) → StoodFor run (now work.before)
+stood_by (RunAlone file) work store run tells over (text, has, (program, is, same)) stood =
+    absurd (cc (ap (λ (r : Running). r.store) same, over))
+stood_by (Create name) work store run tells over runs stood = absurd runs
+stood_by (Run name schema program) work store run tells over (stored, reads, (done, named, passes)) stood =
+    let found = found_over name stored work run passes in
+    let named_so : Some name ≡ Some store = sym (ap (λ (r : Running). r.store) found.is) ∙ over in
+    let this : name ≡ store = cc (named_so) in
+    let there : StandsAsRead name (now work.before) = subst (λ (n : List ℕ). StandsAsRead n (now work.before)) (sym this) stood in
+    subst (λ (r : Running). StoodFor r (now work.before)) (sym found.is)
+    (λ log pages log_left pages_left. there log pages log_left pages_left ∙ found.reads tells)
+
+pub stood_for : (words : List (List ℕ)) (work : Work) (store : List ℕ) (run : Running) → IsTrue work.tells → run.store ≡ Some store →
+    Runs words work run → StandsAsRead store (now work.before) → StoodFor run (now work.before)
+stood_for words work store run tells over runs stood = stood_by runs.0 work store run tells over runs.2 stood

@@ -1,0 +1,6 @@
+-- Each stage of each command does one thing.
+use Rattle.dbpl_tool.proofs.OneAnswer.{one_of}
+use Rattle.dbpl_tool.proofs.laws.one_answer.Goals as goal
+
+pub returns : goal.returns
+returns c = one_of
