@@ -32,9 +32,9 @@ fn first_bytes<const N: usize>(world: &mut MemoryWorld) -> Result<(u64, [u8; N])
     Ok((size, bytes))
 }
 
-/// How many records an opening gives.
-fn count_in(alloc: Global, log: &[u8]) -> Result<usize, OpenErr> {
-    let Some(mut world) = world_of(alloc, log, b"", &[]) else {
+/// How many records an opening gives, where the calls with these numbers fail.
+fn count_in(alloc: Global, log: &[u8], fails: &[u64]) -> Result<usize, OpenErr> {
+    let Some(mut world) = world_of(alloc, log, b"", fails) else {
         return Err(OpenErr::Memory);
     };
     let opened = open(alloc, &mut world)?;
@@ -102,7 +102,14 @@ fn other_logs(rt: HostRuntime) -> Result<(), Fail> {
         ),
         (b"\x01DBPL-STORE-0000", Err(OpenErr::Damaged)),
     ] {
-        assert_eq!(rt; count_in(rt.alloc(), log), want);
+        assert_eq!(rt; count_in(rt.alloc(), log, &[]), want);
+    }
+    // Both syncs come before a refusal, and one that failed isn't made again.
+    for sync in 1..3 {
+        assert_eq!(rt;
+            count_in(rt.alloc(), b"\x01DBPL-STOR", &[sync]),
+            Err(OpenErr::Disk)
+        );
     }
     Ok(())
 }
@@ -162,6 +169,17 @@ fn each_call_failing(rt: HostRuntime) -> Result<(), Fail> {
             _ => false,
         };
         assert!(rt; fits);
+        // A call that fails ends the step that makes it: no step passes over it, or makes it again.
+        let steps = if call < 13 {
+            0
+        } else if call < 18 {
+            1
+        } else if call < 24 {
+            2
+        } else {
+            3
+        };
+        assert_eq!(rt; after.0, steps);
     }
     Ok(())
 }
