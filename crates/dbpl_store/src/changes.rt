@@ -14,8 +14,8 @@ use dbpl_value::{Field, Value, same_type};
 use std::alloc::Global;
 
 impl Store {
-    /// Binds the program's relation variable, which the other calls speak of. Where it is absent it is added, empty. The
-    /// answer is whether it is bound: it isn't where its name is there with another type.
+    /// Binds the program's relation variable, which the other calls speak of. Where it is absent it is added, empty.
+    /// The answer is whether it is bound: it isn't where its name is there with another type.
     pub fn bind(&mut self, alloc: Global, rel: &Field) -> Result<bool, Memory>
         requires kept { IsTrue (is_kept rel.now.name rel.now.kind) }
         ensures bound { IfOk result (λ is_bound. MatchBool is_bound

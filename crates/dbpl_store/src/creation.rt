@@ -27,8 +27,8 @@ pub fn create<W: World>(world: &mut W) -> Result<(), CreateErr>
         OnOk result ((disk_of W.World world.new).pages ≡ settled (pages_of W.World world.old)) }
     ensures writes { IsTrue W.tells → Meanwhile W.World WritesLog world.old world.new }
 
-    // Each refusal comes exactly where it says, but for faults, and leaves all as it was. So does any answer over what isn't
-    // free.
+    // Each refusal comes exactly where it says, but for faults, and leaves all as it was. So does any answer over what
+    // isn't free.
     ensures free { IsTrue W.tells → OnOk result (IsFree (disk_of W.World world.old)) }
     ensures exists { IsTrue W.tells → result ≡ Err errors.Exists → HasHead (log_of W.World world.old) }
     ensures exists_where { IsTrue W.tells → HasHead (log_of W.World world.old) →

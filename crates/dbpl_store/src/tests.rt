@@ -195,8 +195,8 @@ fn other_logs(rt: HostRuntime) -> Result<(), Fail> {
     Ok(())
 }
 
-/// How many of making, opening, binding and committing were done, and what the store holds afterwards, where the call with
-/// this number fails.
+/// How many of making, opening, binding and committing were done, and what the store holds afterwards, where the call
+/// with this number fails.
 fn after_fault(alloc: Global, call: u64) -> Option<(usize, Result<bool, StoreErr>)> {
     let mut world = world_of(alloc, b"", &[call])?;
     let done = match create(&mut world) {
@@ -218,6 +218,17 @@ fn each_call_failing(rt: HostRuntime) -> Result<(), Fail> {
             _ => false,
         };
         assert!(rt; fits);
+        // A call that fails ends the step that makes it: no step passes over it, or makes it again.
+        let steps = if call < 13 {
+            0
+        } else if call < 18 {
+            1
+        } else if call < 24 {
+            3
+        } else {
+            4
+        };
+        assert_eq!(rt; after.0, steps);
     }
     Ok(())
 }
