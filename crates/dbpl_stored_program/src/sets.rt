@@ -33,9 +33,11 @@ fn put_row(alloc: Global, t: &DbType, set: &mut Value, row: &[i64]) -> Result<()
     requires kind { IsTrue (is_relation_type t.now) }
     requires relation { IsTrue (is_of t.now set.old) }
     requires row { IsTrue (is_of (element_of t.now) (record_of row.now)) }
-    ensures free { OnOk result (list_any (λ element. clash t.now element (record_of row.now)) (records_in set.old) ≡ false) }
+    ensures free { OnOk result (
+        list_any (λ element. clash t.now element (record_of row.now)) (records_in set.old) ≡ false) }
     ensures put { OnOk result (set.new ≡ Value.Rel (put t.now (records_in set.old) (record_of row.now))) }
-    ensures clash { IfErr result (λ why. why ≡ SetErr.Clash → list_any (λ element. clash t.now element (record_of row.now)) (records_in set.old) ≡ true) }
+    ensures clash { IfErr result (λ why. why ≡ SetErr.Clash →
+        list_any (λ element. clash t.now element (record_of row.now)) (records_in set.old) ≡ true) }
     ensures of_type { IsTrue (is_of t.now set.new) }
 {
     let one = relation_of(alloc, t, row)?;

@@ -18,8 +18,10 @@ use std::alloc::Global;
 pub fn transacted(alloc: Global, program: &StoredProgram, before: &Value) -> Result<Value, RunErr>
     requires small { IsTrue (is_small_program program.now) }
     requires relation { IsTrue (is_of program.now.relation.kind before.now) }
-    ensures after { IfOk result (λ after. inserted_all program.now.relation.kind program.now.insertions before.now ≡ Ok after) }
-    ensures trap { (trap : AnyTrap) → result ≡ Err (RunErr.Trap trap) → inserted_all program.now.relation.kind program.now.insertions before.now ≡ Err trap }
+    ensures after { IfOk result (λ after.
+        inserted_all program.now.relation.kind program.now.insertions before.now ≡ Ok after) }
+    ensures trap { (trap : AnyTrap) → result ≡ Err (RunErr.Trap trap) →
+        inserted_all program.now.relation.kind program.now.insertions before.now ≡ Err trap }
     ensures of_type { IfOk result (λ after. IsTrue (is_of program.now.relation.kind after)) }
     ensures are_small { IfOk result (λ after. IsTrue (are_small program.now.relation.kind after)) }
 {
@@ -41,7 +43,8 @@ fn put_set(
     requires rows { IsTrue (are_rows t.now insertion.now) }
     requires relation { IsTrue (is_of t.now relation.old) }
     ensures ok { OnOk result (inserted t.now insertion.now relation.old ≡ Ok relation.new) }
-    ensures trap { IfErr result (λ why. (trap : AnyTrap) → why ≡ RunErr.Trap trap → inserted t.now insertion.now relation.old ≡ Err trap) }
+    ensures trap { IfErr result (λ why. (trap : AnyTrap) → why ≡ RunErr.Trap trap →
+        inserted t.now insertion.now relation.old ≡ Err trap) }
     ensures of_type { IsTrue (is_of t.now relation.new) }
 {
     let set = right_side(alloc, t, insertion)?;
@@ -56,7 +59,8 @@ fn right_side(alloc: Global, t: &DbType, insertion: &Insertion) -> Result<Value,
     requires flat { IsTrue (is_flat t.now) }
     requires rows { IsTrue (are_rows t.now insertion.now) }
     ensures ok { IfOk result (λ set. right_side_of t.now insertion.now ≡ Ok set) }
-    ensures trap { IfErr result (λ why. (trap : AnyTrap) → why ≡ RunErr.Trap trap → right_side_of t.now insertion.now ≡ Err trap) }
+    ensures trap { IfErr result (λ why. (trap : AnyTrap) → why ≡ RunErr.Trap trap →
+        right_side_of t.now insertion.now ≡ Err trap) }
     ensures of_type { IfOk result (λ set. IsTrue (is_of t.now set)) }
 {
     match set_of(alloc, t, insertion.rows.as_slice()) {
