@@ -1,12 +1,10 @@
 -- What is bound is one database, and a store that stands for a database has a head.
-use Rattle.std.proofs.Common.{◌≡◌, ◌∙◌, ℕ, inl, inr, List, [], Option, None, Some, ap, refl, sym}
+use Rattle.std.proofs.Common.{◌≡◌, ◌∙◌, ℕ, List, [], Option, None, Some, refl, sym}
 use Rattle.std.specs.Option.{option_and_then}
-use Rattle.dbpl_value.specs.Binding.{Binds, Differs, bound_named}
 use Rattle.dbpl_log.proofs.RecordLaws.{records_head}
 use Rattle.dbpl_log.specs.Records.{HasHead, records_of}
 use Rattle.dbpl_store.specs.Stands.{newest, stands}
 use Rattle.dbpl_value.specs.declared.bound.Bound.{Bound}
-use Rattle.dbpl_value.specs.declared.field.Field.{Field}
 
 pub some-inside : {A : Type 0} (x y : A) → Some x ≡ Some y → x ≡ y
 some-inside x y same = cc

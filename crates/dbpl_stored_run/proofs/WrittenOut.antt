@@ -13,7 +13,7 @@ use Rattle.dbpl_stored_run.specs.declared.body_err.BodyErr.TheVariants as body_e
 use Rattle.dbpl_stored_run.specs.declared.stop_err.StopErr.{StopErr}
 use Rattle.dbpl_stored_run.specs.declared.stop_err.StopErr.TheVariants as errors
 use Rattle.dbpl_value.specs.declared.bound.Bound.{Bound}
-use Rattle.dbpl_world.proofs.CountLaws.{rose_since, rose_until}
+use Rattle.dbpl_world.proofs.CountLaws.{rose_since}
 use Rattle.dbpl_world.proofs.Moments.{moments_start}
 use Rattle.dbpl_world.specs.Counts.{OnlyDiskFaults, Rose}
 use Rattle.dbpl_world.specs.History.{History, now}

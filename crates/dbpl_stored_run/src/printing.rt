@@ -50,8 +50,8 @@ pub(crate) fn write_out<W: World>(world: &mut W) -> Result<(), BodyErr>
     }
 }
 
-/// How a body went, once all that it printed is written out. Where it stopped by a fault or want of memory that stays the
-/// answer, and nothing is written out.
+/// How a body went, once all that it printed is written out. Where it stopped by a fault or want of memory that stays
+/// the answer, and nothing is written out.
 pub(crate) fn written_out<W: World>(went: Result<(), BodyErr>, world: &mut W) -> Result<(), BodyErr>
     ensures unchanged { IsTrue W.tells → W.history world.new ≡ W.history world.old }
     ensures same { W.mounted world.new ≡ W.mounted world.old }

@@ -23,8 +23,8 @@ use dbpl_stored_program::StoredProgram;
 use dbpl_world::World;
 use std::alloc::Global;
 
-/// Opens the mounted store, binds the program's relation variable, and does the statements of its body. Where it traps the
-/// store is let go of, with nothing of the transaction.
+/// Opens the mounted store, binds the program's relation variable, and does the statements of its body. Where it traps
+/// the store is let go of, with nothing of the transaction.
 pub fn run_stored<W: World>(
     alloc: Global,
     program: &StoredProgram,
@@ -33,8 +33,8 @@ pub fn run_stored<W: World>(
     requires mounted { IsSome (W.mounted world.old) }
     requires small { IsTrue (is_small_program program.now) }
 
-    // THE HEADLINE: at every moment some prefix of the program's events has as its prints the bytes said, and as its last
-    // commit what a stop then leaves. A run that ends or traps has made them all.
+    // THE HEADLINE: at every moment some prefix of the program's events has as its prints the bytes said, and as its
+    // last commit what a stop then leaves. A run that ends or traps has made them all.
     ensures headline { IsTrue W.tells → (database bound : List Bound) →
         StandsFor database (now (W.history world.old)) → Binds program.now.relation database bound →
         Meanwhile W.World (LeavesTied (events_of program.now bound (input_of W.World world.old)) database)
@@ -75,8 +75,8 @@ pub fn run_stored<W: World>(
     ensures out_fault_where { (result ≡ Err errors.OutFault)
         ⊎ ((W.counts world.new).say_faults ≡ (W.counts world.old).say_faults) }
 
-    // Unless the disk failed no transaction is half there: one prefix of the events was made, and what a stop leaves is of
-    // that one.
+    // Unless the disk failed no transaction is half there: one prefix of the events was made, and what a stop leaves is
+    // of that one.
     ensures at_rest { IsTrue W.tells → (database bound : List Bound) → StandsFor database (now (W.history world.old)) →
         Binds program.now.relation database bound → result ≢ Err errors.DiskFault →
         Between W.World (HasMadeSome (events_of program.now bound (input_of W.World world.old)) database)

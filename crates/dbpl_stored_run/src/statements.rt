@@ -20,8 +20,8 @@ use dbpl_stored_program::{Action, StoredProgram, before_zero};
 use dbpl_world::World;
 use std::alloc::Global;
 
-/// Does the statements of the body up to its end, or up to the first trap, fault or want of memory. Where it ends or traps, all
-/// that it printed is written out.
+/// Does the statements of the body up to its end, or up to the first trap, fault or want of memory. Where it ends or
+/// traps, all that it printed is written out.
 pub(crate) fn run_body<W: World>(
     alloc: Global,
     program: &StoredProgram,

@@ -213,7 +213,8 @@ fn other_stores(rt: HostRuntime) -> Result<(), Fail> {
     Ok(())
 }
 
-/// The answer, how many bytes were said, and how many records there are afterwards, where the call with this number fails.
+/// The answer, how many bytes were said, and how many records there are afterwards, where the call with this number
+/// fails.
 fn after_fault(alloc: Global, call: u64) -> Option<(Result<(), StopErr>, usize, usize)> {
     let mut world = world_of(alloc, EMPTY, &[call])?;
     let answer = run(alloc, &mut world, &[&[[1, 5]]])?;
