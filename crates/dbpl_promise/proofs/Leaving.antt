@@ -3,8 +3,8 @@ use Rattle.std.proofs.Common.{◌≡◌, ◌⊎◌, ℕ, List, [], None, Option,
 use Rattle.std.specs.Prelude.{IsSomeAnd}
 use Rattle.dbpl_promise.specs.Leaving.{IsUntouched}
 use Rattle.dbpl_promise.specs.Promises.{LeavesAlone}
-use Rattle.dbpl_promise.specs.Running.{HasMadeSome}
-use Rattle.dbpl_promise.specs.Runs.{HasMade, IsTied, Leaves, Run, StoodFor}
+use Rattle.dbpl_promise.specs.Running.{SomeWereMade}
+use Rattle.dbpl_promise.specs.Runs.{WereMade, IsTied, Leaves, Run, StoodFor}
 use Rattle.dbpl_store.specs.Stands.{stands}
 use Rattle.dbpl_value.specs.declared.bound.Bound.{Bound}
 use Rattle.dbpl_world.specs.History.{State}
@@ -41,7 +41,7 @@ leaves_more (Some name) P Q s more holds =
     λ log pages log_left pages_left. more (stands log pages) (holds log pages log_left pages_left)
 
 module _ (run : Run) (old : State) (stood : StoodFor run old) where
-  made_nothing : (found : Option (List Bound)) → found ≡ Some run.database → HasMade run old [] found old.said
+  made_nothing : (found : Option (List Bound)) → found ≡ Some run.database → WereMade run old [] found old.said
   made_nothing found is = record { printed = sym (append-nil old.said); stored = is }
 
   -- no event was made yet
@@ -49,9 +49,9 @@ module _ (run : Run) (old : State) (stood : StoodFor run old) where
   tied_here = leaves_more run.store (λ found said. found ≡ Some run.database) (IsTied run old) old
       (λ found is. record { made = []; may = (0, ((run.means old.input 0).events, refl)); has = made_nothing found is }) stood
 
-  pub some_here : HasMadeSome run old old
+  pub some_here : SomeWereMade run old old
   some_here = record {
     made = [];
     may = (0, ((run.means old.input 0).events, refl));
-    left = leaves_more run.store (λ found said. found ≡ Some run.database) (HasMade run old []) old made_nothing stood;
+    left = leaves_more run.store (λ found said. found ≡ Some run.database) (WereMade run old []) old made_nothing stood;
   }

@@ -8,7 +8,7 @@ use Rattle.dbpl_log.specs.Records.{HasHead, records_of}
 use Rattle.dbpl_promise.proofs.Determined.{given, joined}
 use Rattle.dbpl_promise.proofs.AnswerKinds.{Fault, HasKinds, Refusal, kind_of, kinds_given, kinds_joined}
 use Rattle.dbpl_promise.specs.Faults.{disk_faults}
-use Rattle.dbpl_promise.specs.Opening.{IsUnbound, IsUnnamed, IsUnopened, ReadsAs, all_bound, bound, named, opened, store_before}
+use Rattle.dbpl_promise.specs.Opening.{IsUnbound, IsUnnamed, IsUnopened, StandsAs, all_bound, bound, named, opened, store_before}
 use Rattle.dbpl_promise.specs.Running.{Ends, ended}
 use Rattle.dbpl_promise.specs.Runs.{Run}
 use Rattle.dbpl_promise.specs.Stages.{IsDetermined, Stage, ◌>>=◌}
@@ -79,7 +79,7 @@ module _ (name : List ℕ) (work : Work) (tells : IsTrue work.tells) where
   refusal (status.Damaged page) _ left right = absurd right
   refusal _ other left right = absurd left
 
-  apart : (database : List Bound) (answer : Status) → (IsTrue work.tells → ReadsAs database (store_before name work)) →
+  apart : (database : List Bound) (answer : Status) → (IsTrue work.tells → StandsAs database (store_before name work)) →
       IsUnopened name work answer → ⊥
   apart database status.NotStore reads is = is tells (stands_head _ _ database (reads tells))
   apart database (status.Damaged page) reads is = cc (reads tells, (is tells).none)

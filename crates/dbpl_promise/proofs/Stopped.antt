@@ -6,7 +6,7 @@ use Rattle.dbpl_core.specs.Outcomes.{TellsOfEnd}
 use Rattle.dbpl_promise.proofs.AnswerKinds.{Fault, HasKinds, end_kind, kind_of}
 use Rattle.dbpl_promise.proofs.Leaving.{alone_here, some_here, tied_here, untouched_here}
 use Rattle.dbpl_promise.specs.Promises.{Answered, LeavesAlone}
-use Rattle.dbpl_promise.specs.Running.{EndsRun, HasMadeSome, MayRun, ended, running}
+use Rattle.dbpl_promise.specs.Running.{EndsRun, SomeWereMade, MayRun, ended, running}
 use Rattle.dbpl_promise.specs.Runs.{Run}
 use Rattle.dbpl_promise.specs.Stages.{IsDetermined, IsDue, Stage, Stops, ◌>>=◌}
 use Rattle.dbpl_promise.specs.Work.{IsTold, Work}
@@ -66,7 +66,7 @@ module _ (stage : Stage Run) (work : Work) (answer : Status) (kinds : HasKinds s
   ends why = record {
     whole = λ told run passes tells. absurd (no_end why tells);
     at_rest = λ told run passes stood fine.
-        subst (HasMadeSome run (now work.before)) (same told.world) (some_here run (now work.before) stood);
+        subst (SomeWereMade run (now work.before)) (same told.world) (some_here run (now work.before) stood);
     settled = λ told refuses name mounts. absurd (unmounted why told refuses name mounts);
   }
 

@@ -33,8 +33,8 @@ named name = record { passes = λ work done. name ≢ no_store; refuses = IsUnna
 -- ---- opening
 
 -- what a read gives of the store stands for this database
-abbrev pub ReadsAs : List Bound → Store → Type 0
-ReadsAs database store = stands store.log.now store.pages.now ≡ Some database
+abbrev pub StandsAs : List Bound → Store → Type 0
+StandsAs database store = stands store.log.now store.pages.now ≡ Some database
 
 -- It has the head of a store, but stands for no database. So far that always shows at page 0.
 pub record IsDamaged (store : Store) (page : ℕ) : Type 0 where
@@ -50,7 +50,7 @@ IsUnopened name work _ = ⊥
 -- THE stage in which the store of this name is mounted and opened; it passes with its database
 abbrev pub opened : List ℕ → Stage (List Bound)
 opened name = record {
-  passes = λ work database. IsTrue work.tells → ReadsAs database (store_before name work);
+  passes = λ work database. IsTrue work.tells → StandsAs database (store_before name work);
   refuses = IsUnopened name;
   fails = disk_faults;
   mounts = λ work mounted. mounted ≡ name;

@@ -9,7 +9,7 @@ use Rattle.dbpl_promise.specs.Leaving.{IsUntouched, made_sure}
 use Rattle.dbpl_promise.specs.Opening.{store_before}
 use Rattle.dbpl_promise.specs.Promises.{Promise}
 use Rattle.dbpl_promise.specs.Refusals.{is_refusal}
-use Rattle.dbpl_promise.specs.Runs.{HasMade, IsTied, IsWhole, Leaves, Run, StoodFor}
+use Rattle.dbpl_promise.specs.Runs.{WereMade, IsTied, IsWhole, Leaves, Run, StoodFor}
 use Rattle.dbpl_promise.specs.Stages.{Never, Stage, ◌>>=◌}
 use Rattle.dbpl_promise.specs.Work.{IsTold, Work}
 use Rattle.dbpl_world.specs.History.{State, now, store_of}
@@ -49,10 +49,10 @@ pub record MayRun (stage : Stage Run) (work : Work) (answer : Status) (s : State
   pub input : s.input ≡ (now work.before).input
 
 -- One prefix of the events was made, and whatever a stop leaves is of that one.
-pub record HasMadeSome (run : Run) (old s : State) : Type 0 where
+pub record SomeWereMade (run : Run) (old s : State) : Type 0 where
   pub made : List Event
   pub may : MayHaveMade (run.means old.input) made
-  pub left : Leaves run.store (HasMade run old made) s
+  pub left : Leaves run.store (WereMade run old made) s
 
 -- THE run at its end.
 pub record EndsRun (stage : Stage Run) (work : Work) (answer : Status) (s : State) : Type 0 where
@@ -61,7 +61,7 @@ pub record EndsRun (stage : Stage Run) (work : Work) (answer : Status) (s : Stat
       Leaves run.store (IsWhole run (now work.before) answer s.input) s
   -- Unless the disk failed no transaction is half there: before its last sync no other answer comes.
   pub at_rest : IsTold work → (run : Run) → stage.passes work run → StoodFor run (now work.before) →
-      answer ≢ status.DiskFault → HasMadeSome run (now work.before) s
+      answer ≢ status.DiskFault → SomeWereMade run (now work.before) s
   -- What is refused once the store may be mounted, is so only when it was made sure of.
   pub settled : IsTold work → stage.refuses work answer → (name : List ℕ) → stage.mounts work name →
       store_of s name ≡ made_sure (store_before name work)

@@ -37,7 +37,8 @@ StoodFor run s = Leaves run.store (λ found said. found ≡ Some run.database) s
 
 -- These events were made since old: their prints were said behind the bytes before, and their last commit is the database
 -- that was found. Where there is none among them, that is the database that is run over.
-pub record HasMade (run : Run) (old : State) (made : List Event) (found : Option (List Bound)) (said : List ℕ) : Type 0 where
+pub record WereMade (run : Run) (old : State) (made : List Event) (found : Option (List Bound)) (said : List ℕ)
+    : Type 0 where
   pub printed : said ≡ old.said ++ prints made
   pub stored : found ≡ Some (last made run.database)
 
@@ -45,7 +46,7 @@ pub record HasMade (run : Run) (old : State) (made : List Event) (found : Option
 pub record IsTied (run : Run) (old : State) (found : Option (List Bound)) (said : List ℕ) : Type 0 where
   pub made : List Event
   pub may : MayHaveMade (run.means old.input) made
-  pub has : HasMade run old made found said
+  pub has : WereMade run old made found said
 
 -- Within some number of turns the meaning ends as the answer tells, all its events were made since old, and the input left
 -- is the one that it left.
@@ -53,7 +54,7 @@ pub record IsWhole (run : Run) (old : State) (answer : Status) (left : List ℕ)
     : Type 0 where
   pub turns : ℕ
   pub ends : IsToldBy (run.means old.input turns).stands answer
-  pub has : HasMade run old (run.means old.input turns).events found said
+  pub has : WereMade run old (run.means old.input turns).events found said
   pub left_is : left ≡ (run.means old.input turns).left
 
 -- THE HEADLINE: whatever a stop at any moment of the work could leave of the store, and the bytes said by then, are those of
