@@ -4,7 +4,7 @@ pub mod MeaningLaws
 pub mod ModuleLaw
 pub mod PlacedLaw
 pub mod Printed
-pub mod Printing
+pub mod Saying
 pub mod Stages
 pub mod Tests
 pub mod TurnLaw

@@ -3,7 +3,7 @@ use Rattle.std.proofs.Common.{◌≡◌, ℕ, List, [], None, inl, inr, refl, su
 use Rattle.dbpl_alone.proofs.MeaningLaws.{module_steady}
 use Rattle.dbpl_alone.proofs.ModuleLaw.{module_or_refusal, one_module, one_refusal}
 use Rattle.dbpl_alone.specs.Answers.{IsNotRead}
-use Rattle.dbpl_alone.specs.Command.{IsNoModule, accepted, runs_alone}
+use Rattle.dbpl_alone.specs.Command.{IsNotAModule, accepted, runs_alone}
 use Rattle.dbpl_alone.specs.Meaning.{module_meaning}
 use Rattle.dbpl_alone.specs.Modules.{IsModule}
 use Rattle.dbpl_alone.specs.declared.program.Program.{Program}
@@ -34,7 +34,7 @@ runs_text text = accepted text >>= λ program. gives (run_of program)
 
 -- ---- a text
 
-no_module_kind : (text : List ℕ) (work : Work) (answer : Status) → IsNoModule text work answer → kind_of answer ≡ Refusal
+no_module_kind : (text : List ℕ) (work : Work) (answer : Status) → IsNotAModule text work answer → kind_of answer ≡ Refusal
 no_module_kind text work (status.Refused place rule) is = refl
 no_module_kind text work _ is = absurd is
 
@@ -45,13 +45,13 @@ refused_alike : (place other : Place) (rule another : ℕ) → (place ≡ other)
     status.Refused place rule ≡ status.Refused other another
 refused_alike place other rule another same = cc (same.0, same.1)
 
-refusal : (text : List ℕ) (work : Work) (answer other : Status) → IsNoModule text work answer → IsNoModule text work other → answer ≡ other
+refusal : (text : List ℕ) (work : Work) (answer other : Status) → IsNotAModule text work answer → IsNotAModule text work other → answer ≡ other
 refusal text work (status.Refused place rule) (status.Refused other another) left right =
     refused_alike place other rule another (one_refusal text place other rule another left right)
 refusal text work (status.Refused place rule) _ left right = absurd right
 refusal text work _ other left right = absurd left
 
-apart : (text : List ℕ) (work : Work) (program : Program) (answer : Status) → IsModule text program → IsNoModule text work answer → ⊥
+apart : (text : List ℕ) (work : Work) (program : Program) (answer : Status) → IsModule text program → IsNotAModule text work answer → ⊥
 apart text work program (status.Refused place rule) is refused = module_or_refusal text program place rule is refused
 apart text work program _ is refused = absurd refused
 

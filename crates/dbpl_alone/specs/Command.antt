@@ -10,15 +10,15 @@ use Rattle.dbpl_promise.specs.Stages.{Never, Stage, gives, ◌>>=◌}
 use Rattle.dbpl_promise.specs.Work.{Work}
 use Rattle.dbpl_sources.specs.Fetching.{fetched}
 
-abbrev pub IsNoModule : List ℕ → Work → Status → Type 0
-IsNoModule text work (status.Refused place rule) = IsRefused text place rule
-IsNoModule text work _ = ⊥
+abbrev pub IsNotAModule : List ℕ → Work → Status → Type 0
+IsNotAModule text work (status.Refused place rule) = IsRefused text place rule
+IsNotAModule text work _ = ⊥
 
 -- THE stage in which a text has to be a module that can be run
 abbrev pub accepted : List ℕ → Stage Program
 accepted text = record {
   passes = λ work program. IsModule text program;
-  refuses = IsNoModule text;
+  refuses = IsNotAModule text;
   fails = Never;
   mounts = Never;
 }

@@ -16,8 +16,8 @@ use Rattle.dbpl_promise.specs.Leaving.{IsUntouched, made_sure}
 use Rattle.dbpl_promise.specs.Opening.{no_store, store_before}
 use Rattle.dbpl_promise.specs.Promises.{Answered, LeavesAlone}
 use Rattle.dbpl_promise.specs.Refusals.{is_refusal}
-use Rattle.dbpl_promise.specs.Running.{EndsRun, HasMadeSome, MayRun, RunsNothing, ended, running}
-use Rattle.dbpl_promise.specs.Runs.{HasMade, IsTied, IsWhole, Leaves, Run, StoodFor}
+use Rattle.dbpl_promise.specs.Running.{EndsRun, SomeWereMade, MayRun, RunsNothing, ended, running}
+use Rattle.dbpl_promise.specs.Runs.{WereMade, IsTied, IsWhole, Leaves, Run, StoodFor}
 use Rattle.dbpl_promise.specs.Stages.{IsDue, ◌>>=◌}
 use Rattle.dbpl_promise.specs.Work.{IsTold, Work}
 use Rattle.dbpl_store.specs.Stands.{LeavesOld, stands}
@@ -287,7 +287,7 @@ module _ (store : List ℕ) (stored : StoredProgram) (work : Work) (mid : Histor
 
   has_made : IsTrue work.tells → (database bound : List Bound) (events : List Event) (found : Option (List Bound)) (bytes : List ℕ) →
       bytes ≡ (now mid).said ++ prints events → found ≡ Some (last events database) →
-      HasMade (run_of store stored database bound) (now work.before) events found bytes
+      WereMade (run_of store stored database bound) (now work.before) events found bytes
   has_made told database bound events found bytes printed is = record {
     printed = printed ∙ ap (λ (before : List ℕ). before ++ prints events) (said told);
     stored = is;
@@ -410,7 +410,7 @@ module _ (store : List ℕ) (stored : StoredProgram) (work : Work) (mid : Histor
       (λ log pages log_left pages_left. record {
         turns = turns_of stored;
         ends = subst (λ (s : Standing). IsToldBy s a) (sym (stands_so told database bound reads binds standing has)) told_by;
-        has = subst (λ (i : List ℕ). HasMade (run_of store stored database bound) (now work.before) (events_of stored bound i) (stands log pages) (now work.after).said)
+        has = subst (λ (i : List ℕ). WereMade (run_of store stored database bound) (now work.before) (events_of stored bound i) (stands log pages) (now work.after).said)
             (input told)
             (has_made told database bound (events_of stored bound (now mid).input) (stands log pages) (now work.after).said all.printed
             (all.stored log pages log_left pages_left));
@@ -433,14 +433,14 @@ module _ (store : List ℕ) (stored : StoredProgram) (work : Work) (mid : Histor
 
   some_made : IsTrue work.tells → (database bound : List Bound) → Binds stored.relation database bound →
       StoodFor (run_of store stored database bound) (now work.before) → answer ≢ status.DiskFault →
-      HasMadeSome (run_of store stored database bound) (now work.before) (now work.after)
+      SomeWereMade (run_of store stored database bound) (now work.before) (now work.after)
   some_made told database bound binds stood fine =
       let some = run.at_rest told database bound (stands_here told database bound stood) binds
           (λ e. fine (subst (λ (r : Result (Unit {0}) StopErr). TellsOfRun stored r answer) e is)) in
       record {
         made = some.made;
         may = (turns_of stored, (some.rest, prefix told bound some.made some.rest some.prefix));
-        left = at_name told (HasMade (run_of store stored database bound) (now work.before) some.made) (now work.after) (changes told).others
+        left = at_name told (WereMade (run_of store stored database bound) (now work.before) some.made) (now work.after) (changes told).others
             (λ log pages log_left pages_left.
             has_made told database bound some.made (stands log pages) (now work.after).said some.has.printed
             (some.has.stored log pages log_left pages_left));
@@ -460,7 +460,7 @@ module _ (store : List ℕ) (stored : StoredProgram) (work : Work) (mid : Histor
         (whole told.world found.database found.bound (reads_here told.world found.database (found.reads told.world)) found.binds answer refl of_end);
     at_rest = λ told asked passes_with stood fine.
         let found = found_over store stored work asked passes_with in
-        subst (λ (r : Run). HasMadeSome r (now work.before) (now work.after)) (sym found.is)
+        subst (λ (r : Run). SomeWereMade r (now work.before) (now work.after)) (sym found.is)
         (some_made told.world found.database found.bound found.binds (subst (λ (r : Run). StoodFor r (now work.before)) found.is stood) fine);
     settled = λ told refuses name mounts.
         subst (λ (n : List ℕ). store_of (now work.after) n ≡ made_sure (store_before n work)) (sym (over_mounts store stored work name mounts))

@@ -1,5 +1,5 @@
 -- What the stages of a run over a store do.
-use Rattle.std.proofs.Common.{◌≡◌, ◌∙◌, ◌⊎◌, ◌+◌, ℕ, List, [], ◌∷◌, IsTrue, Some, inl, inr, refl, subst, sym}
+use Rattle.std.proofs.Common.{◌≡◌, ◌∙◌, ◌⊎◌, ◌+◌, ℕ, List, [], ◌∷◌, IsTrue, Some, arith, get_or, inl, inr, length, map, refl, subst, sym}
 use Rattle.dbpl_base.specs.declared.place.Place.{Place}
 use Rattle.dbpl_base.specs.declared.status.Status.{Status}
 use Rattle.dbpl_base.specs.declared.status.Status.TheVariants as status
@@ -9,7 +9,7 @@ use Rattle.dbpl_promise.proofs.Determined.{given, joined}
 use Rattle.dbpl_promise.proofs.InFront.{in_front}
 use Rattle.dbpl_promise.proofs.Stages.{all_bound_determined, all_bound_kinds, all_bound_mounts, named_determined, named_kinds, opened_determined, opened_kinds, running_determined}
 use Rattle.dbpl_promise.proofs.Stopped.{IsStill, StopsUnmounted, stopped, stops_in_front}
-use Rattle.dbpl_promise.specs.Opening.{ReadsAs, all_bound, named, no_store, opened, store_before}
+use Rattle.dbpl_promise.specs.Opening.{StandsAs, all_bound, named, no_store, opened, store_before}
 use Rattle.dbpl_promise.specs.Promises.{Answered}
 use Rattle.dbpl_promise.specs.Running.{ended, running}
 use Rattle.dbpl_promise.specs.Runs.{Run}
@@ -20,7 +20,7 @@ use Rattle.dbpl_sources.specs.Fetching.{all_fetched}
 use Rattle.dbpl_stored_form.proofs.TextLaw.{one_program, one_refusal, program_or_refusal}
 use Rattle.dbpl_stored_form.specs.Texts.{IsRefused, IsStored}
 use Rattle.dbpl_stored_modes.specs.Reading.{AreRefused}
-use Rattle.dbpl_stored_modes.specs.RunCommand.{AreNoProgram, AreProgram, accepted, reads_program, runs_over, runs_program}
+use Rattle.dbpl_stored_modes.specs.RunCommand.{AreNoProgram, AreProgram, accepted_texts, reads_program, runs_over, runs_program}
 use Rattle.dbpl_stored_program.proofs.Steady.{steady}
 use Rattle.dbpl_stored_program.specs.Meaning.{meaning}
 use Rattle.dbpl_stored_program.specs.declared.stored_program.StoredProgram.{StoredProgram}
@@ -78,7 +78,7 @@ program_determined store stored work tells =
 -- ---- what they pass with
 
 module _ (store : List ℕ) (stored : StoredProgram) (work : Work) where
-  pub passes_over : (database bound : List Bound) → (IsTrue work.tells → ReadsAs database (store_before store work)) →
+  pub passes_over : (database bound : List Bound) → (IsTrue work.tells → StandsAs database (store_before store work)) →
       Binds stored.relation database bound → (over_store store stored).passes work (run_of store stored database bound)
   passes_over database bound reads binds = (database, reads, (bound, (bound, binds, refl), refl))
 
@@ -86,7 +86,7 @@ module _ (store : List ℕ) (stored : StoredProgram) (work : Work) where
   pub record IsFound (run : Run) : Type 0 where
     pub database : List Bound
     pub bound : List Bound
-    pub reads : IsTrue work.tells → ReadsAs database (store_before store work)
+    pub reads : IsTrue work.tells → StandsAs database (store_before store work)
     pub binds : Binds stored.relation database bound
     pub is : run ≡ run_of store stored database bound
 
@@ -111,7 +111,7 @@ no_program_kind : (texts : List (List ℕ)) (work : Work) (answer : Status) → 
 no_program_kind texts work (status.Refused place rule) is = refl
 no_program_kind texts work _ is = absurd is
 
-accepted_kinds : (texts : List (List ℕ)) → HasKinds (accepted texts)
+accepted_kinds : (texts : List (List ℕ)) → HasKinds (accepted_texts texts)
 accepted_kinds texts = record { refuses = no_program_kind texts; fails = λ work answer never. absurd never }
 
 -- the two texts are two others
@@ -147,18 +147,26 @@ module _ (texts : List (List ℕ)) (work : Work) where
       (subst (λ (t : List ℕ). IsRefused t another place rule) texts_same.0 also))
   apart stored _ passes refuses = absurd refuses
 
-  accepted_determined : IsDetermined (accepted texts) work
+  accepted_determined : IsDetermined (accepted_texts texts) work
   accepted_determined = record { one = one; refusal = refusal; apart = apart }
 
 -- ---- the files
 
+-- a list of two
+pub two : {X : Type 0} (f : X → List ℕ) (xs : List X) (none : X) → length xs ≡ 2 →
+    map f xs ≡ f (get_or xs 0 none) ∷ f (get_or xs 1 none) ∷ []
+two f [] none is = absurd (omega (arith, is))
+two f (a ∷ []) none is = absurd (omega (arith, is))
+two f (a ∷ b ∷ []) none is = refl
+two f (a ∷ b ∷ c ∷ more) none is = absurd (omega (arith, is))
+
 module _ (schema program : List ℕ) where
   reading_kinds : HasKinds (reads_program schema program)
-  reading_kinds = kinds_joined (all_fetched (schema ∷ program ∷ [])) accepted (all_kinds (schema ∷ program ∷ [])) accepted_kinds
+  reading_kinds = kinds_joined (all_fetched (schema ∷ program ∷ [])) accepted_texts (all_kinds (schema ∷ program ∷ [])) accepted_kinds
 
   reading_determined : (work : Work) → IsTold work → IsDetermined (reads_program schema program) work
   reading_determined work told =
-      joined (all_fetched (schema ∷ program ∷ [])) accepted work (all_determined (schema ∷ program ∷ []) work told.files)
+      joined (all_fetched (schema ∷ program ∷ [])) accepted_texts work (all_determined (schema ∷ program ∷ []) work told.files)
       (λ texts passes. accepted_determined texts work)
 
   reading_mounts : (work : Work) (name : List ℕ) → (reads_program schema program).mounts work name → ⊥

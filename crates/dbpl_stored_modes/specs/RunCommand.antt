@@ -22,8 +22,8 @@ AreNoProgram texts work (status.Refused place rule) =
 AreNoProgram texts work _ = ⊥
 
 -- THE stage in which two texts have to be a program over a store
-abbrev pub accepted : List (List ℕ) → Stage StoredProgram
-accepted texts = record {
+abbrev pub accepted_texts : List (List ℕ) → Stage StoredProgram
+accepted_texts texts = record {
   passes = λ work stored. AreProgram texts stored;
   refuses = AreNoProgram texts;
   fails = Never;
@@ -34,7 +34,7 @@ accepted texts = record {
 abbrev pub reads_program : List ℕ → List ℕ → Stage StoredProgram
 reads_program schema program = do
   texts ← all_fetched (schema ∷ program ∷ [])
-  accepted texts
+  accepted_texts texts
 
 -- THE stages of a run of this program
 abbrev pub runs_program : List ℕ → StoredProgram → Stage Run

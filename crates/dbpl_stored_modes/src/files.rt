@@ -15,7 +15,7 @@ use crate::running::run_over;
 use dbpl_base::Status;
 use dbpl_base::limits::SOURCE_BYTES;
 use dbpl_front::FrontErr;
-use dbpl_sources::source;
+use dbpl_sources::sources;
 use dbpl_stored_form::read_stored;
 use dbpl_stored_program::StoredProgram;
 use dbpl_world::{Shelf, World};
@@ -58,15 +58,8 @@ fn program_in<S: Shelf>(
     ensures files { S.files shelf.new ≡ S.files shelf.old }
     ensures faults { S.shelf_faults shelf.old ≤ S.shelf_faults shelf.new }
 {
-    let schema = match source(alloc, shelf, schema) {
-        Ok(text) => text,
-        Err(status) => return Err(status),
-    };
-    let program = match source(alloc, shelf, program) {
-        Ok(text) => text,
-        Err(status) => return Err(status),
-    };
-    program_of(alloc, schema.as_slice(), program.as_slice())
+    let texts = sources(alloc, shelf, &[schema, program])?;
+    program_of(alloc, texts[0].as_slice(), texts[1].as_slice())
 }
 
 /// The program that the two texts are.

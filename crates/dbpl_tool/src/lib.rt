@@ -11,6 +11,8 @@ pub use laws::one_answer;
 pub use next::one_behind_another;
 
 #[cfg(test)]
+mod fault_tests;
+#[cfg(test)]
 mod store_tests;
 #[cfg(test)]
 mod tests;

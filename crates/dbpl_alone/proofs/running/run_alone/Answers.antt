@@ -1,6 +1,6 @@
 -- Each return kept the promise.
 use Rattle.std.proofs.Common.{arith, refl}
-use Rattle.dbpl_alone.proofs.Printing.{printed_all, printed_some, unnoted}
+use Rattle.dbpl_alone.proofs.Saying.{printed_all, printed_some, unnoted}
 use Rattle.dbpl_alone.proofs.Stages.{behind_fetch, unaccepted, unfetched}
 use Rattle.dbpl_alone.proofs.running.run_alone.Goals as goal
 use Rattle.dbpl_promise.specs.Work.{work_of}

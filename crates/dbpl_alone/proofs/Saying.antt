@@ -14,8 +14,8 @@ use Rattle.dbpl_core.specs.Events.{prints}
 use Rattle.dbpl_core.specs.Outcomes.{IsToldBy, Outcome, TellsOfEnd}
 use Rattle.dbpl_promise.specs.Promises.{Answered, LeavesAlone}
 use Rattle.dbpl_promise.specs.Refusals.{is_refusal}
-use Rattle.dbpl_promise.specs.Running.{EndsRun, HasMadeSome, MayRun, RunsNothing, ended, running}
-use Rattle.dbpl_promise.specs.Runs.{HasMade, IsTied, IsWhole, Leaves, Run}
+use Rattle.dbpl_promise.specs.Running.{EndsRun, SomeWereMade, MayRun, RunsNothing, ended, running}
+use Rattle.dbpl_promise.specs.Runs.{WereMade, IsTied, IsWhole, Leaves, Run}
 use Rattle.dbpl_promise.specs.Stages.{IsDue, ◌>>=◌}
 use Rattle.dbpl_promise.specs.Work.{Work}
 use Rattle.dbpl_world.proofs.Moments.{moments_weaken}
@@ -81,7 +81,7 @@ module _ (text : List ℕ) (work : Work) (answer : Status) (program : Program) (
   passes_with = (program, the.spelt, refl)
 
   made : (came : List ℕ) (s : State) → s ≡ record (now work.before) { said = (now work.before).said ++ came } →
-      HasMade (run_of program) (now work.before) (outs came) (Some []) s.said
+      WereMade (run_of program) (now work.before) (outs came) (Some []) s.said
   made came s same = record {
     printed = ap (λ (t : State). t.said) same ∙ ap (λ (bytes : List ℕ). (now work.before).said ++ bytes) (sym (prints-outs came));
     stored = ap Some (sym (last_outs came []));
@@ -114,7 +114,7 @@ module _ (text : List ℕ) (work : Work) (answer : Status) (program : Program) (
     whole = λ told run passes tells.
         subst (λ (r : Run). Leaves r.store (IsWhole r (now work.before) answer s.input) s) (sym (the_run run passes)) (all tells);
     at_rest = λ told run passes stood fine.
-        subst (λ (r : Run). HasMadeSome r (now work.before) s) (sym (the_run run passes)) (record {
+        subst (λ (r : Run). SomeWereMade r (now work.before) s) (sym (the_run run passes)) (record {
           made = outs said;
           may = may_print program (now work.before).input said behind front;
           left = made said s same;
@@ -157,7 +157,7 @@ module _ (text : List ℕ) (work : Work) (program : Program) (the : IsTheModule 
       record {
         turns = enough program;
         ends = end_told input;
-        has = subst (λ (outcome : Outcome). HasMade (run_of program) (now work.before) outcome.events (Some []) s.said)
+        has = subst (λ (outcome : Outcome). WereMade (run_of program) (now work.before) outcome.events (Some []) s.said)
             (sym (whole program input)) (record {
               printed = ap (λ (t : State). t.said) same
                   ∙ ap (λ (bytes : List ℕ). (now work.before).said ++ bytes) (sym (prints-outs (printed program)));
