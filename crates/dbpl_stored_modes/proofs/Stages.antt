@@ -1,5 +1,5 @@
 -- What the stages of a run over a store do.
-use Rattle.std.proofs.Common.{◌≡◌, ◌∙◌, ◌⊎◌, ◌+◌, ℕ, List, [], ◌∷◌, IsTrue, Some, arith, get_or, inl, inr, length, map, refl, subst, sym}
+use Rattle.std.proofs.Common.{◌≡◌, ◌∙◌, ◌⊎◌, ◌+◌, ℕ, List, [], ◌∷◌, Err, IfErr, IfOk, IsTrue, Ok, Result, Some, arith, get_or, inl, inr, length, map, refl, subst, sym}
 use Rattle.dbpl_base.specs.declared.place.Place.{Place}
 use Rattle.dbpl_base.specs.declared.status.Status.{Status}
 use Rattle.dbpl_base.specs.declared.status.Status.TheVariants as status
@@ -152,13 +152,13 @@ module _ (texts : List (List ℕ)) (work : Work) where
 
 -- ---- the files
 
--- a list of two
-pub two : {X : Type 0} (f : X → List ℕ) (xs : List X) (none : X) → length xs ≡ 2 →
-    map f xs ≡ f (get_or xs 0 none) ∷ f (get_or xs 1 none) ∷ []
-two f [] none is = absurd (omega (arith, is))
-two f (a ∷ []) none is = absurd (omega (arith, is))
-two f (a ∷ b ∷ []) none is = refl
-two f (a ∷ b ∷ c ∷ more) none is = absurd (omega (arith, is))
+-- a list of two, by what stands in it
+two : {X : Type 0} (f : X → List ℕ) (xs : List X) (one other : X) → length xs ≡ 2 → one ≡ get_or xs 0 one → other ≡ get_or xs 1 other →
+    map f xs ≡ f one ∷ f other ∷ []
+two f [] one other is first second = absurd (omega (arith, is))
+two f (a ∷ []) one other is first second = absurd (omega (arith, is))
+two f (a ∷ b ∷ []) one other is first second = cc (first, second)
+two f (a ∷ b ∷ c ∷ more) one other is first second = absurd (omega (arith, is))
 
 module _ (schema program : List ℕ) where
   reading_kinds : HasKinds (reads_program schema program)
@@ -192,6 +192,27 @@ module _ (schema program : List ℕ) where
   files_stop work answer (inl refuses) = inl (inl refuses)
   files_stop work answer (inr (inl fault)) = inr (inl (inl fault))
   files_stop work answer (inr (inr memory)) = inr (inr memory)
+
+-- The same of a list of two texts that were fetched, and of what was answered of them.
+module _ {X : Type 0} (bytes : X → List ℕ) (texts : List X) (one other : X) (schema program first second : List ℕ) (work : Work)
+    (count : length texts ≡ 2) (is_one : one ≡ get_or texts 0 one) (is_other : other ≡ get_or texts 1 other)
+    (first_is : first ≡ bytes one) (second_is : second ≡ bytes other)
+    (passes : (all_fetched (schema ∷ program ∷ [])).passes work (map bytes texts)) where
+  are_two : map bytes texts ≡ first ∷ second ∷ []
+  are_two = let same = two bytes texts one other count is_one is_other in cc (same, first_is, second_is)
+
+  both_pass : (all_fetched (schema ∷ program ∷ [])).passes work (first ∷ second ∷ [])
+  both_pass = subst (λ (fetched : List (List ℕ)). (all_fetched (schema ∷ program ∷ [])).passes work fetched) are_two passes
+
+  pub texts_found : (answer : Result StoredProgram Status) → IfOk answer (IsStored first second) →
+      IfOk answer ((reads_program schema program).passes work)
+  texts_found (Ok stored) is = texts_pass schema program work first second stored both_pass is
+  texts_found (Err answer) is = is
+
+  pub texts_refused : (answer : Result StoredProgram Status) → IfErr answer (AreRefused first second) →
+      IfErr answer (Stops (reads_program schema program) work)
+  texts_refused (Ok stored) is = is
+  texts_refused (Err answer) is = texts_stop schema program work first second answer both_pass is
 
 -- ---- the whole
 

@@ -3,4 +3,4 @@ use Rattle.dbpl_tool.proofs.OneAnswer.{one_of}
 use Rattle.dbpl_tool.proofs.laws.one_answer.Goals as goal
 
 pub returns : goal.returns
-returns c = one_of
+returns c = record { one = one_of }
