@@ -1,7 +1,7 @@
 -- Judgements. A phrase is judged in its setting, whatever it breaks: the judgement has each breach of a rule in the phrase,
 -- and what the phrase resolves to, or nothing where a rule is broken in it or a name in it is unknown. So one definition says
 -- both which programs are refused and what an accepted one is.
-use Rattle.std.specs.Prelude.{ℕ, Bool, true, false, List, [], ◌∷◌, ◌++◌, Option, Some, None, option_map}
+use Rattle.std.specs.Prelude.{ℕ, ◌+◌, Bool, true, false, List, [], ◌∷◌, ◌++◌, Option, Some, None, option_map}
 use Rattle.std.specs.List.{fold}
 use Rattle.dbpl_base.specs.Places.{start_of}
 use Rattle.dbpl_base.specs.declared.place.Place.{Place}
@@ -51,6 +51,11 @@ infixl 20 ◌>>◌
 abbrev pub ◌>>◌ : {A B : Type 0} → Judged A → Judged B → Judged B
 judged >> next = judged >>= λ _. next
 
+infixl 20 ◌>>?◌
+-- What comes next is judged whatever the phrase breaks, with its core if it has one.
+abbrev pub ◌>>?◌ : {A B : Type 0} → Judged A → (Option A → Judged B) → Judged B
+judged >>? next = record { breaches = judged.breaches ++ (next judged.core).breaches; core = (next judged.core).core }
+
 -- two parts, or nothing where one of them is missing
 abbrev pub paired : {A B : Type 0} → Option A → Option B → Option (A × B)
 paired None other = None
@@ -77,6 +82,12 @@ added list part = option_map (λ parts. parts.0 ++ parts.1 ∷ []) (paired list 
 abbrev pub each : {A B : Type 0} → (A → Judged B) → List A → Judged (List B)
 each judge [] = good []
 each judge (phrase ∷ phrases) = made (λ parts. parts.0 ∷ parts.1) (both (judge phrase) (each judge phrases))
+
+-- Each phrase of a list is judged with its number, whatever the others break: the first has this number, the next one more.
+abbrev pub each_at : {A B : Type 0} → (ℕ → A → Judged B) → ℕ → List A → Judged (List B)
+each_at judge number [] = good []
+each_at judge number (phrase ∷ phrases) =
+    made (λ parts. parts.0 ∷ parts.1) (both (judge number phrase) (each_at judge (number + 1) phrases))
 
 -- Phrases from left to right: each is judged, whatever the others break, and `next` asks of what all before it make and of this one.
 abbrev pub folded : {P A B : Type 0} → (P → Judged B) → (P → A → B → Judged A) → Judged A → List P → Judged A

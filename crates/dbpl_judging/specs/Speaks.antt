@@ -1,15 +1,10 @@
 -- That nothing is refused without a breach.
-use Rattle.std.specs.Prelude.{◌≡◌, ℕ, List, [], Some, None}
+use Rattle.std.specs.Prelude.{◌≡◌, [], None}
 use Rattle.dbpl_judging.specs.Judgements.{Judged}
 use Rattle.dbpl_judging.specs.Stages.{Staged}
-use Rattle.dbpl_symbols.specs.Scopes.{Declarations, seen}
-use Rattle.dbpl_symbols.specs.declared.decl.Decl.TheVariants as decls
+use Rattle.dbpl_symbols.specs.Known.{IsKnown}
 
--- no declaration of the scope is unknown
-abbrev pub IsKnown : Declarations → Type 0
-IsKnown scope = (name : List ℕ) → seen name scope ≡ Some decls.Unknown → ⊥
-
--- THE law that each judgement keeps in a scope where no declaration is unknown: where there is no core, a rule is broken
+-- THE law that each judgement keeps in a scope that is known: where there is no core, a rule is broken
 abbrev pub Speaks : {A : Type 0} → Judged A → Type 0
 Speaks judged = judged.core ≡ None → judged.breaches ≡ [] → ⊥
 

@@ -1,5 +1,5 @@
 -- What declares. A declaration is judged as any phrase, and leaves a scope for what stands behind it.
-use Rattle.std.specs.Prelude.{◌≡◌, List, [], ◌∷◌, ◌++◌, Option, Some, option_map, Result, IfOk}
+use Rattle.std.specs.Prelude.{◌≡◌, ℕ, ◌+◌, List, [], ◌∷◌, ◌++◌, Option, Some, option_map, Result, IfOk}
 use Rattle.dbpl_base.specs.declared.memory.Memory.{Memory}
 use Rattle.dbpl_base.specs.declared.refusal.Refusal.{Refusal}
 use Rattle.dbpl_judging.specs.Checking.{Checking, noting}
@@ -42,6 +42,22 @@ both_staged one next setting = record {
   core = paired one.core (next (under one.scope setting)).core;
 }
 
+-- What comes next is judged whatever the stage before it breaks, with its core if it has one.
+abbrev pub known_staged : {A B : Type 0} → Staged A → (Option A → Setting → Staged B) → Setting → Staged B
+known_staged one next setting = record {
+  breaches = one.breaches ++ (next one.core (under one.scope setting)).breaches;
+  scope = (next one.core (under one.scope setting)).scope;
+  core = (next one.core (under one.scope setting)).core;
+}
+
+-- A judged phrase, and then what changes the scope, whatever the phrase breaks, with its core if it has one.
+abbrev pub then_staged : {A B : Type 0} → Judged A → (Option A → Setting → Staged B) → Setting → Staged B
+then_staged judged next setting = record {
+  breaches = judged.breaches ++ (next judged.core setting).breaches;
+  scope = (next judged.core setting).scope;
+  core = (next judged.core setting).core;
+}
+
 -- the same breaches and scope, and what this makes of the core
 abbrev pub made_staged : {A B : Type 0} → (A → B) → Staged A → Staged B
 made_staged make staged = record { breaches = staged.breaches; scope = staged.scope; core = option_map make staged.core }
@@ -51,6 +67,18 @@ abbrev pub each_staged : {A B : Type 0} → (A → Setting → Staged B) → Lis
 each_staged stage [] setting = record { breaches = []; scope = setting.scope; core = Some [] }
 each_staged stage (phrase ∷ phrases) setting =
     made_staged (λ parts. parts.0 ∷ parts.1) (both_staged (stage phrase setting) (each_staged stage phrases) setting)
+
+-- Each of a list, one behind the other, with its number: the first has this one, and each takes so many of them. So the local
+-- variables of a routine are numbered through all sections that declare them.
+abbrev pub each_staged_from : {A B : Type 0} → (A → ℕ) → (ℕ → A → Setting → Staged B) → ℕ → List A → Setting → Staged (List B)
+each_staged_from count stage number [] setting = record { breaches = []; scope = setting.scope; core = Some [] }
+each_staged_from count stage number (phrase ∷ phrases) setting =
+    made_staged (λ parts. parts.0 ∷ parts.1)
+    (both_staged (stage number phrase setting) (each_staged_from count stage (number + count phrase) phrases) setting)
+
+-- each of a list, one behind the other, with its number: the first has this one, the next one more
+abbrev pub each_staged_at : {A B : Type 0} → (ℕ → A → Setting → Staged B) → ℕ → List A → Setting → Staged (List B)
+each_staged_at stage number phrases setting = each_staged_from (λ _. 1) stage number phrases setting
 
 -- A level with its declarations is judged, and left: what it declares is seen in it alone.
 abbrev pub in_level : {A : Type 0} → (Setting → Staged A) → Setting → Judged A

@@ -6,12 +6,12 @@ ghost use Rattle.dbpl_judging.specs.Judgements.{asks as asked, breach_of};
 ghost use Rattle.dbpl_judging.specs.Stages.{in_scope};
 ghost use Rattle.dbpl_symbols.specs.Scopes.{entered, left, with_pair};
 
-use crate::Setting;
+use crate::{Heading, Setting};
 use crate::nodes::room_behind;
 use dbpl_base::limits::TYPE_NODES;
 use dbpl_base::{Memory, Name, Place, Refusal, Shared};
 use dbpl_symbols::{Decl, Origin};
-use dbpl_value::{DbType, Head, copy_type};
+use dbpl_value::{DbType, copy_type};
 use std::alloc::Global;
 use std::marker::Model;
 use std::mem;
@@ -122,12 +122,12 @@ impl Checker {
         self.setting.scope.add(alloc, name, decl, origin)
     }
 
-    /// What stands behind is the heading of what is judged. Answers the heading before.
-    pub fn begin_routine(&mut self, head: Shared<Head>) -> Shared<Head>
-        ensures before { result ≡ self.old.setting.head }
-        ensures after { self.new ≡ record self.old { setting = record self.old.setting { head = head } } }
+    /// Says in which routine stands what is judged from now on, by its heading, or in none. Answers what was said before.
+    pub fn set_heading(&mut self, heading: Option<Heading>) -> Option<Heading>
+        ensures before { result ≡ self.old.setting.heading }
+        ensures after { self.new ≡ record self.old { setting = record self.old.setting { heading = heading } } }
     {
-        mem::replace(&mut self.setting.head, head)
+        mem::replace(&mut self.setting.heading, heading)
     }
 
     /// Says whether a LOOP stands around what is judged from now on. Answers whether one did before.

@@ -4,6 +4,8 @@
 
 mod checker;
 mod facts;
+mod gives;
+mod heading;
 mod kind;
 mod laws;
 mod nodes;
@@ -15,6 +17,8 @@ mod typed;
 
 pub use checker::Checker;
 pub use facts::Facts;
+pub use gives::Gives;
+pub use heading::{Heading, heading_of};
 pub use kind::Kind;
 pub use laws::{least_breach, noting_lists, refused_by_one};
 pub use parts::{both_of, boxed, kept, pair, pushed};

@@ -1,3 +1,5 @@
 pub mod HeldLaws
+pub mod KnownLaws
+pub mod ParamLaws
 pub mod PlaceLaws
 pub mod ScopeLaws

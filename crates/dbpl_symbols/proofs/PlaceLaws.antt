@@ -35,7 +35,7 @@ spot-push name (first ∷ pairs) pair =
     ap (λ o. option_or (option_map suc o) (cond (is_named name first) (Some 0) None)) (spot-push name pairs pair) ∙
     push_more (is_named name pair) (length pairs) (spot name pairs) (cond (is_named name first) (Some 0) None)
 
-latest-cons : (name : List ℕ) (pair : Pair) (pairs : List Pair) →
+pub latest-cons : (name : List ℕ) (pair : Pair) (pairs : List Pair) →
     latest name (pair ∷ pairs) ≡ option_or (latest name pairs) (cond (is_named name pair) (Some pair) None)
 latest-cons name pair pairs =
     ap (find (is_named name)) (reverse-append (pair ∷ []) pairs) ∙ find-append (is_named name) (reverse pairs) (pair ∷ [])

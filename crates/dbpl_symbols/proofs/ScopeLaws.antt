@@ -1,11 +1,11 @@
 -- Laws of scopes over plain variables: what is left of a level, and that the flat form is the levels one behind the other.
 use Rattle.std.proofs.Common.{◌≡◌, ◌∙◌, ℕ, ◌+◌, ◌-◌, ◌≤◌, List, [], ◌∷◌, ◌++◌, length, drop, take, reverse, flat_map, Option, Some, None, refl, ap, ap₂, sym, arith}
-use Rattle.std.proofs.Math.Seq.{drop-length, take-append_seam}
-use Rattle.std.proofs.lemmas.List.{append-nil, drop-drop, length_push, reverse-append, take-append-drop, take_at, take_rest}
+use Rattle.std.proofs.Math.Seq.{drop-append_seam, take-append_seam}
+use Rattle.std.proofs.lemmas.List.{append-nil, drop-append-le, drop-drop, length-drop, length_push, reverse-append, take-append-drop, take-append-le, take_at}
 use Rattle.std.proofs.lemmas.List.Folds.{find-append}
 use Rattle.std.specs.List.{find, slice_get}
 use Rattle.std.specs.Option.{option_map_or, option_or}
-use Rattle.dbpl_symbols.specs.Scopes.{Declarations, RiseTo, entered, found, innermost, is_named, last_of, latest, left, levels, levels_from, with_pairs}
+use Rattle.dbpl_symbols.specs.Scopes.{Declarations, RiseTo, entered, found, innermost, is_named, last_of, latest, left, levels, levels_from, with_last, with_pair, with_pairs}
 use Rattle.dbpl_symbols.specs.declared.pair.Pair.{Pair}
 
 -- ---- the last of a list
@@ -46,15 +46,6 @@ left_again scope more =
 
 -- ---- levels
 
-entered-from : (starts : List ℕ) (start : ℕ) (pairs : List Pair) →
-    levels_from start (starts ++ length pairs ∷ []) pairs ≡ levels_from start starts pairs ++ [] ∷ []
-entered-from [] start pairs = ap₂ (λ level end. level ∷ end ∷ []) (take_rest pairs start) (drop-length pairs)
-entered-from (next ∷ starts) start pairs =
-    ap (λ inner. take (next - start) (drop start pairs) ∷ inner) (entered-from starts next pairs)
-
-pub levels-entered : (scope : Declarations) → levels (entered scope) ≡ levels scope ++ [] ∷ []
-levels-entered scope = entered-from scope.starts 0 scope.pairs
-
 up : (start next : ℕ) → start ≤ next → next ≡ start + (next - start)
 up start next h = omega arith
 
@@ -70,6 +61,61 @@ joined-from (next ∷ starts) start pairs rise =
 pub levels-joined : (scope : Declarations) → RiseTo (length scope.pairs) 0 scope.starts →
     flat_map (λ level. level) (levels scope) ≡ scope.pairs
 levels-joined scope rise = joined-from scope.starts 0 scope.pairs rise
+
+-- ---- what a declaration makes of levels
+
+rise-high : (starts : List ℕ) (first high : ℕ) → RiseTo high first starts → first ≤ high
+rise-high [] first high rise = rise
+rise-high (next ∷ starts) first high rise =
+    let above : next ≤ high = rise-high starts next high rise.1 in omega (arith, rise.0, above)
+
+-- what stands behind them all leaves an outer level as it is
+outer-same : (start next : ℕ) (pairs more : List Pair) → start ≤ next → next ≤ length pairs →
+    take (next - start) (drop start (pairs ++ more)) ≡ take (next - start) (drop start pairs)
+outer-same start next pairs more up within =
+    ap (take (next - start)) (drop-append-le start pairs more (omega (arith, up, within))) ∙
+    take-append-le (next - start) (drop start pairs) more (omega (arith, up, within, length-drop start pairs))
+
+with_last-outer : (pair : Pair) (level : List Pair) (start : ℕ) (starts : List ℕ) (pairs : List Pair) →
+    with_last pair (level ∷ levels_from start starts pairs) ≡ level ∷ with_last pair (levels_from start starts pairs)
+with_last-outer pair level start [] pairs = refl
+with_last-outer pair level start (next ∷ starts) pairs = refl
+
+declared-from : (starts : List ℕ) (start : ℕ) (pairs : List Pair) (pair : Pair) → RiseTo (length pairs) start starts →
+    levels_from start starts (pairs ++ pair ∷ []) ≡ with_last pair (levels_from start starts pairs)
+declared-from [] start pairs pair rise = ap (λ level. level ∷ []) (drop-append-le start pairs (pair ∷ []) rise)
+declared-from (next ∷ starts) start pairs pair rise =
+    ap₂ (λ level inner. level ∷ inner)
+    (outer-same start next pairs (pair ∷ []) rise.0 (rise-high starts next (length pairs) rise.1))
+    (declared-from starts next pairs pair rise.1) ∙
+    sym (with_last-outer pair (take (next - start) (drop start pairs)) next starts pairs)
+
+pub levels-declared : (pair : Pair) (scope : Declarations) → RiseTo (length scope.pairs) 0 scope.starts →
+    levels (with_pair pair scope) ≡ with_last pair (levels scope)
+levels-declared pair scope rise = declared-from scope.starts 0 scope.pairs pair rise
+
+inner-from : (starts : List ℕ) (start : ℕ) (pairs more : List Pair) → RiseTo (length pairs) start starts →
+    levels_from start (starts ++ length pairs ∷ []) (pairs ++ more) ≡ levels_from start starts pairs ++ more ∷ []
+inner-from [] start pairs more rise =
+    ap₂ (λ level inner. level ∷ inner ∷ [])
+    (ap (take (length pairs - start)) (drop-append-le start pairs more rise) ∙
+    take_at (drop start pairs) more (length pairs - start) (length-drop start pairs))
+    (drop-append_seam pairs more)
+inner-from (next ∷ starts) start pairs more rise =
+    ap₂ (λ level inner. level ∷ inner)
+    (outer-same start next pairs more rise.0 (rise-high starts next (length pairs) rise.1))
+    (inner-from starts next pairs more rise.1)
+
+pub levels-inner : (more : List Pair) (scope : Declarations) → RiseTo (length scope.pairs) 0 scope.starts →
+    levels (with_pairs more (entered scope)) ≡ levels scope ++ more ∷ []
+levels-inner more scope rise = inner-from scope.starts 0 scope.pairs more rise
+
+counted-from : (starts : List ℕ) (start : ℕ) (pairs : List Pair) → length (levels_from start starts pairs) ≡ length starts + 1
+counted-from [] start pairs = refl
+counted-from (next ∷ starts) start pairs = omega (arith, counted-from starts next pairs)
+
+pub levels-counted : (scope : Declarations) → length (levels scope) ≡ length scope.starts + 1
+levels-counted scope = counted-from scope.starts 0 scope.pairs
 
 -- ---- the innermost level that has a name
 

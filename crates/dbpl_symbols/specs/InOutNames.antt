@@ -1,11 +1,11 @@
 -- What the module InOut shows: procedures that read and print, and the variable Done.
-use Rattle.std.specs.Prelude.{ℕ, Bool, true, false, List, [], ◌∷◌, ◌++◌, Some, None, codes}
+use Rattle.std.specs.Prelude.{ℕ, true, false, List, [], ◌∷◌, ◌++◌, Some, None, codes}
+use Rattle.dbpl_core.specs.declared.in_out_procedure.InOutProcedure.{InOutProcedure}
+use Rattle.dbpl_core.specs.declared.in_out_procedure.InOutProcedure.TheVariants as procedures
 use Rattle.dbpl_symbols.specs.Interfaces.{exports_of}
 use Rattle.dbpl_symbols.specs.StandardNames.{own}
 use Rattle.dbpl_symbols.specs.declared.decl.Decl.TheVariants as decls
 use Rattle.dbpl_symbols.specs.declared.exports.Exports.{Exports}
-use Rattle.dbpl_symbols.specs.declared.in_out_routine.InOutRoutine.{InOutRoutine}
-use Rattle.dbpl_symbols.specs.declared.in_out_routine.InOutRoutine.TheVariants as routines
 use Rattle.dbpl_symbols.specs.declared.pair.Pair.{Pair}
 use Rattle.dbpl_symbols.specs.declared.sort.Sort.TheVariants as sorts
 use Rattle.dbpl_value.specs.declared.db_type.DbType.{DbType}
@@ -26,15 +26,15 @@ abbrev pub procedure_head : List ℕ → List Param → Head
 procedure_head name params = record { name = name; transaction = false; params = params; result = None }
 
 -- a procedure of InOut with a heading
-abbrev pub routine : InOutRoutine → List ℕ → List Param → Pair
+abbrev pub routine : InOutProcedure → List ℕ → List Param → Pair
 routine which name params = own name (decls.InOut which (Some (procedure_head name params)))
 
 -- what reads
 unfoldable pub reading_pairs : List Pair
 reading_pairs =
-    routine routines.Read (codes "Read") (var_param (codes "c") kinds.Char ∷ []) ∷
-    routine routines.ReadInt (codes "ReadInt") (var_param (codes "x") kinds.Int ∷ []) ∷
-    routine routines.ReadCard (codes "ReadCard") (var_param (codes "x") kinds.Card ∷ []) ∷ []
+    routine procedures.Read (codes "Read") (var_param (codes "c") kinds.Char ∷ []) ∷
+    routine procedures.ReadInt (codes "ReadInt") (var_param (codes "x") kinds.Int ∷ []) ∷
+    routine procedures.ReadCard (codes "ReadCard") (var_param (codes "x") kinds.Card ∷ []) ∷ []
 
 -- the number that is printed, and the width
 abbrev pub number_params : DbType → List Param
@@ -43,11 +43,11 @@ number_params kind = value_param (codes "x") kind ∷ value_param (codes "n") ki
 -- what prints
 unfoldable pub writing_pairs : List Pair
 writing_pairs =
-    routine routines.Write (codes "Write") (value_param (codes "c") kinds.Char ∷ []) ∷
-    routine routines.WriteLn (codes "WriteLn") [] ∷
-    own (codes "WriteString") (decls.InOut routines.WriteString None) ∷
-    routine routines.WriteInt (codes "WriteInt") (number_params kinds.Int) ∷
-    routine routines.WriteCard (codes "WriteCard") (number_params kinds.Card) ∷ []
+    routine procedures.Write (codes "Write") (value_param (codes "c") kinds.Char ∷ []) ∷
+    routine procedures.WriteLn (codes "WriteLn") [] ∷
+    own (codes "WriteString") (decls.InOut procedures.WriteString None) ∷
+    routine procedures.WriteInt (codes "WriteInt") (number_params kinds.Int) ∷
+    routine procedures.WriteCard (codes "WriteCard") (number_params kinds.Card) ∷ []
 
 -- THE declarations of InOut
 abbrev pub in_out_pairs : List Pair

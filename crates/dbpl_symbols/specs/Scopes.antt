@@ -88,6 +88,12 @@ levels_from start (next ∷ starts) pairs = take (next - start) (drop start pair
 abbrev pub levels : Declarations → List (List Pair)
 levels scope = levels_from 0 scope.starts scope.pairs
 
+-- levels with one more declaration at the last of them
+abbrev pub with_last : Pair → List (List Pair) → List (List Pair)
+with_last pair [] = []
+with_last pair (level ∷ []) = (level ++ pair ∷ []) ∷ []
+with_last pair (level ∷ next ∷ inner) = level ∷ with_last pair (next ∷ inner)
+
 -- of levels, innermost first: the latest declaration of the name at the first level that has it
 abbrev pub innermost : List ℕ → List (List Pair) → Option Pair
 innermost name [] = None

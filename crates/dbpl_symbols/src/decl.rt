@@ -1,5 +1,6 @@
-use crate::{Exports, InOutRoutine, Sort, StandardProcedure};
+use crate::{Exports, Sort, StandardProcedure};
 use dbpl_base::{Name, Shared};
+use dbpl_core::InOutProcedure;
 use dbpl_value::{DbType, Head};
 
 /// What a name means. A name that stands first in a variant is that of the declaring module.
@@ -25,7 +26,7 @@ pub enum Decl {
     Standard(StandardProcedure),
     /// A procedure of InOut with its heading. WriteString alone has none, since no heading says what it takes: a string, or
     /// an array of CHAR of any length.
-    InOut(InOutRoutine, Option<Shared<Head>>),
+    InOut(InOutProcedure, Option<Shared<Head>>),
     /// An imported module, with what it shows.
     Unit(Shared<Exports>),
     /// A declaration that was refused, or whose type is unknown. A use of it breaks no rule and has no type.

@@ -3,8 +3,9 @@ ghost use Rattle.std.specs.Prelude.{◌≡◌, ◌++◌, [], ◌∷◌, IfOk, On
 ghost use Rattle.dbpl_symbols.specs.InOutNames.{in_out_exports, number_params as number_params_of, reading_pairs, routine as routine_pair, value_param as value_param_of, var_param as var_param_of, writing_pairs};
 ghost use Rattle.dbpl_symbols.specs.StandardNames.{own};
 
-use crate::{Decl, Exports, InOutRoutine, Origin, Pair, Sort};
+use crate::{Decl, Exports, Origin, Pair, Sort};
 use dbpl_base::{List, Memory, Shared, name_of};
+use dbpl_core::InOutProcedure;
 use dbpl_value::{DbType, Head, Param};
 use std::alloc::Global;
 
@@ -25,11 +26,11 @@ fn add_reading(alloc: Global, pairs: &mut List<Pair>) -> Result<(), Memory>
     ensures { OnOk result (pairs.new ≡ pairs.old ++ reading_pairs) }
 {
     let params = one_param(alloc, var_param(alloc, b"c", DbType::Char)?)?;
-    add_routine(alloc, pairs, InOutRoutine::Read, b"Read", params)?;
+    add_routine(alloc, pairs, InOutProcedure::Read, b"Read", params)?;
     let params = one_param(alloc, var_param(alloc, b"x", DbType::Int)?)?;
-    add_routine(alloc, pairs, InOutRoutine::ReadInt, b"ReadInt", params)?;
+    add_routine(alloc, pairs, InOutProcedure::ReadInt, b"ReadInt", params)?;
     let params = one_param(alloc, var_param(alloc, b"x", DbType::Card)?)?;
-    add_routine(alloc, pairs, InOutRoutine::ReadCard, b"ReadCard", params)?;
+    add_routine(alloc, pairs, InOutProcedure::ReadCard, b"ReadCard", params)?;
     Ok(())
 }
 
@@ -37,20 +38,26 @@ fn add_writing(alloc: Global, pairs: &mut List<Pair>) -> Result<(), Memory>
     ensures { OnOk result (pairs.new ≡ pairs.old ++ writing_pairs) }
 {
     let params = one_param(alloc, value_param(alloc, b"c", DbType::Char)?)?;
-    add_routine(alloc, pairs, InOutRoutine::Write, b"Write", params)?;
+    add_routine(alloc, pairs, InOutProcedure::Write, b"Write", params)?;
     add_routine(
         alloc,
         pairs,
-        InOutRoutine::WriteLn,
+        InOutProcedure::WriteLn,
         b"WriteLn",
         List::new(alloc),
     )?;
-    let string = Decl::InOut(InOutRoutine::WriteString, None);
+    let string = Decl::InOut(InOutProcedure::WriteString, None);
     add_name(alloc, pairs, b"WriteString", string)?;
     let params = number_params(alloc, DbType::Int)?;
-    add_routine(alloc, pairs, InOutRoutine::WriteInt, b"WriteInt", params)?;
+    add_routine(alloc, pairs, InOutProcedure::WriteInt, b"WriteInt", params)?;
     let params = number_params(alloc, DbType::Card)?;
-    add_routine(alloc, pairs, InOutRoutine::WriteCard, b"WriteCard", params)?;
+    add_routine(
+        alloc,
+        pairs,
+        InOutProcedure::WriteCard,
+        b"WriteCard",
+        params,
+    )?;
     Ok(())
 }
 
@@ -58,7 +65,7 @@ fn add_writing(alloc: Global, pairs: &mut List<Pair>) -> Result<(), Memory>
 fn add_routine(
     alloc: Global,
     pairs: &mut List<Pair>,
-    routine: InOutRoutine,
+    routine: InOutProcedure,
     name: &[u8],
     params: List<Param>,
 ) -> Result<(), Memory>

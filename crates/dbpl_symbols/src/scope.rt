@@ -1,15 +1,18 @@
 //! `Scope`: the declarations that stand before a phrase, level by level.
-ghost use Rattle.std.specs.Prelude.{◌≡◌, ◌↔◌, ◌++◌, [], ◌∷◌, ℕ, List as Seq, filter, flat_map, reverse, Err, IfOk, IsTrue, OnErr, OnOk};
+ghost use Rattle.std.specs.Prelude.{◌≡◌, ◌↔◌, ◌+◌, ◌++◌, [], ◌∷◌, ℕ, List as Seq, filter, flat_map, length, reverse, Err, IfOk, IsTrue, OnErr, OnOk};
 ghost use Rattle.std.specs.Option.{option_copied};
 ghost use Rattle.dbpl_symbols.specs.Interfaces.{is_own};
-ghost use Rattle.dbpl_symbols.specs.Scopes.{empty_scope, entered, found, innermost, is_declared, last_level, last_start as last_start_of, left, levels, seen, with_pair};
+ghost use Rattle.dbpl_symbols.specs.Parameters.{param_pair, with_params};
+ghost use Rattle.dbpl_symbols.specs.Scopes.{empty_scope, entered, found, innermost, is_declared, last_level, last_start as last_start_of, left, levels, seen, with_last, with_pair, with_pairs};
 ghost use Rattle.dbpl_symbols.specs.StandardNames.{own};
 ghost use Rattle.dbpl_symbols.specs.declared.declare_err.DeclareErr.TheVariants as refusals;
+ghost use Rattle.dbpl_symbols.specs.declared.pair.Pair.{Pair as AnyPair};
 
 use crate::held::Held;
 use crate::places::{add, copy_own, cut, find, from};
-use crate::{Decl, DeclareErr, Origin, Pair};
+use crate::{Decl, DeclareErr, Origin, Pair, Sort};
 use dbpl_base::{List, Memory, Name};
+use dbpl_value::{Head, Param};
 use std::alloc::Global;
 use std::collections::BTreeMap;
 use std::marker::Model;
@@ -125,6 +128,27 @@ impl Scope {
         add(&mut self.held, &mut self.places, alloc, pair)
     }
 
+    /// Adds the parameters of a routine to the last level, numbered from 0. Where memory is wanting some of them may be added.
+    pub fn add_params(&mut self, alloc: Global, head: &Head) -> Result<(), Memory>
+        ensures { OnOk result (self.new ≡ with_params head.now self.old) }
+    {
+        let mut number = 0;
+        for param in head.params.as_slice() {
+            self.add_param(alloc, number, param)?;
+            number = after(number)?;
+        }
+        Ok(())
+    }
+
+    /// Adds the parameter of this number to the last level.
+    fn add_param(&mut self, alloc: Global, number: u32, param: &Param) -> Result<(), Memory>
+        ensures { OnOk result (self.new ≡ with_pair (param_pair number param.now) self.old) }
+    {
+        let kind = param.kind.share()?;
+        let decl = Decl::Variable(kind, Sort::Param(number));
+        self.add(alloc, &param.name, decl, Origin::Declared)
+    }
+
     /// Adds an empty level.
     pub fn enter(&mut self) -> Result<(), Memory>
         ensures ok { OnOk result (self.new ≡ entered self.old) }
@@ -142,13 +166,26 @@ impl Scope {
         }
     }
 
-    /// A law, which does nothing. The declarations of a scope are those of its levels, one behind the other; to enter adds
-    /// an empty level; a name means the latest declaration at the innermost level that has it.
+    /// A law, which does nothing. The declarations of a scope are those of its levels, one behind the other; there is one level
+    /// more than starts; a declaration stands at the last level; to enter adds a level, which has what is declared from then on;
+    /// a name means the latest declaration at the innermost level that has it.
     pub fn stands_in_levels(&self)
         ensures joined { flat_map (λ level. level) (levels self.now) ≡ self.now.pairs }
-        ensures entered { levels (entered self.now) ≡ levels self.now ++ [] ∷ [] }
+        ensures count { length (levels self.now) ≡ length self.now.starts + 1 }
+        ensures declared { (pair : AnyPair) → levels (with_pair pair self.now) ≡ with_last pair (levels self.now) }
+        ensures entered { (more : Seq AnyPair) → levels (with_pairs more (entered self.now)) ≡ levels self.now ++ more ∷ [] }
         ensures found { (name : Seq ℕ) → found name self.now ≡ innermost name (reverse (levels self.now)) }
     {
         let _ = &self.held;
+    }
+}
+
+/// The next number, where it is one of a frame.
+fn after(number: u32) -> Result<u32, Memory>
+    ensures { IfOk result (λ next. next ≡ number + 1) }
+{
+    match number.checked_add(1) {
+        Some(next) => Ok(next),
+        None => Err(Memory),
     }
 }
