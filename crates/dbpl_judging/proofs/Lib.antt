@@ -2,5 +2,6 @@ pub mod Examples
 pub mod Least
 pub mod Lists
 pub mod Sequence
+pub mod Silencing
 pub mod Speaking
 pub mod Staging

@@ -1,7 +1,7 @@
 -- THE laws of sequencing for what declares: the same as those of phrases, with the scope handed on.
 use Rattle.std.proofs.Common.{◌≡◌, ℕ, ◌+◌, ◌<◌, List, [], ◌∷◌, ◌++◌, length, take, get_or, Option, Some, option_map, Result, Ok, Err, IsOkAnd, refl, sym, ap, ◌∙◌, subst, append_assoc, append-nil, arith}
 use Rattle.std.proofs.lemmas.List.{take_more}
-use Rattle.std.proofs.lemmas.List.Sums.{sum_by-cons, sum_by-push}
+use Rattle.std.proofs.lemmas.List.Sums.{sum_by-append, sum_by-cons}
 use Rattle.std.specs.List.{sum_by}
 use Rattle.dbpl_base.specs.declared.memory.Memory.{Memory}
 use Rattle.dbpl_base.specs.declared.refusal.Refusal.{Refusal}
@@ -10,7 +10,7 @@ use Rattle.dbpl_judging.proofs.Lists.{one_core, put_before}
 use Rattle.dbpl_judging.specs.Checking.{Checking, noting}
 use Rattle.dbpl_judging.specs.Judging.{Judges}
 use Rattle.dbpl_judging.specs.Judgements.{Judged, added, paired}
-use Rattle.dbpl_judging.specs.Stages.{Adds, Staged, Stages, after, both_staged, each_staged, each_staged_from, in_level, in_scope, known_staged, leaving, then_staged, under}
+use Rattle.dbpl_judging.specs.Stages.{Adds, Staged, Stages, after, both_staged, each_staged, each_staged_from, in_level, in_scope, known_staged, leaving, number_behind, then_staged, under}
 use Rattle.dbpl_judging.specs.declared.setting.Setting.{Setting}
 use Rattle.dbpl_symbols.proofs.ScopeLaws.{left_again}
 use Rattle.dbpl_symbols.specs.Scopes.{Declarations, entered, left, with_pair, with_pairs}
@@ -229,10 +229,7 @@ one_more_stage stage phrases at phrase list (Ok part) longer old middle new with
 
 -- ---- lists of stages with numbers
 
--- the number behind these phrases, and the setting
-abbrev pub number_behind : {A : Type 0} → (A → ℕ) → ℕ → List A → ℕ
-number_behind count number phrases = number + sum_by count phrases
-
+-- the setting behind these
 abbrev behind_numbered : {A B : Type 0} → (A → ℕ) → (ℕ → A → Setting → Staged B) → ℕ → List A → Setting → Setting
 behind_numbered count stage number phrases setting = under (each_staged_from count stage number phrases setting).scope setting
 
@@ -256,13 +253,13 @@ numbered_core count stage number [] phrase setting =
     one_core (stage number phrase setting).core ∙ ap (λ n. added (Some []) (stage n phrase setting).core) (no_further count number)
 numbered_core count stage number (first ∷ phrases) phrase setting =
     let next : Setting = under (stage number first setting).scope setting in
-    let then : ℕ = number + count first in
+    let later : ℕ = number + count first in
     ap (λ list. option_map (λ parts. parts.0 ∷ parts.1) (paired (stage number first setting).core list))
-    (numbered_core count stage then phrases phrase next)
-    ∙ put_before (stage number first setting).core (each_staged_from count stage then phrases next).core
-    (last_numbered count stage then phrases phrase next).core
+    (numbered_core count stage later phrases phrase next)
+    ∙ put_before (stage number first setting).core (each_staged_from count stage later phrases next).core
+    (last_numbered count stage later phrases phrase next).core
     ∙ ap (λ n. added (each_staged_from count stage number (first ∷ phrases) setting).core
-    (stage n phrase (behind_numbered count stage then phrases next)).core) (further count number first phrases)
+    (stage n phrase (behind_numbered count stage later phrases next)).core) (further count number first phrases)
 
 numbered_breaches :
     {A B : Type 0} (count : A → ℕ) (stage : ℕ → A → Setting → Staged B) (number : ℕ) (phrases : List A) (phrase : A) (setting : Setting) →
@@ -272,12 +269,12 @@ numbered_breaches count stage number [] phrase setting =
     append-nil (stage number phrase setting).breaches ∙ ap (λ n. (stage n phrase setting).breaches) (no_further count number)
 numbered_breaches count stage number (first ∷ phrases) phrase setting =
     let next : Setting = under (stage number first setting).scope setting in
-    let then : ℕ = number + count first in
-    ap (λ breaches. (stage number first setting).breaches ++ breaches) (numbered_breaches count stage then phrases phrase next)
-    ∙ sym (append_assoc (stage number first setting).breaches (each_staged_from count stage then phrases next).breaches
-    (last_numbered count stage then phrases phrase next).breaches)
+    let later : ℕ = number + count first in
+    ap (λ breaches. (stage number first setting).breaches ++ breaches) (numbered_breaches count stage later phrases phrase next)
+    ∙ sym (append_assoc (stage number first setting).breaches (each_staged_from count stage later phrases next).breaches
+    (last_numbered count stage later phrases phrase next).breaches)
     ∙ ap (λ n. (each_staged_from count stage number (first ∷ phrases) setting).breaches
-    ++ (stage n phrase (behind_numbered count stage then phrases next)).breaches) (further count number first phrases)
+    ++ (stage n phrase (behind_numbered count stage later phrases next)).breaches) (further count number first phrases)
 
 numbered_scope :
     {A B : Type 0} (count : A → ℕ) (stage : ℕ → A → Setting → Staged B) (number : ℕ) (phrases : List A) (phrase : A) (setting : Setting) →
@@ -327,6 +324,9 @@ one_more_stage_from count stage first phrases at number phrase list (Ok part) lo
     (numbered_push count stage first (take at phrases) phrase list part old middle new before
     (subst (λ n. Stages (stage n phrase middle.setting) (Ok part) middle new) counted also)))
 
+one_counted : {A : Type 0} (count : A → ℕ) (phrase : A) → sum_by count (phrase ∷ []) ≡ count phrase
+one_counted count phrase = sum_by-cons count phrase [] ∙ omega arith
+
 -- and the number of the next one
 pub one_number_more :
     {P : Type 0} (count : P → ℕ) (first : ℕ) (phrases : List P) (at number next : ℕ) (phrase : P) → at < length phrases →
@@ -336,5 +336,6 @@ one_number_more count first phrases at number next phrase within counted is more
     let whole : take (at + 1) phrases ≡ take at phrases ++ phrase ∷ [] =
     take_more phrases at phrase within ∙ ap (λ one. take at phrases ++ one ∷ []) (sym is) in
     let sums : sum_by count (take (at + 1) phrases) ≡ sum_by count (take at phrases) + count phrase =
-    ap (sum_by count) whole ∙ sum_by-push count (take at phrases) phrase in
+    ap (sum_by count) whole ∙ sum_by-append count (take at phrases) (phrase ∷ [])
+    ∙ ap (λ n. sum_by count (take at phrases) + n) (one_counted count phrase) in
     omega (arith, counted, more, sums)

@@ -1,5 +1,6 @@
 -- What declares. A declaration is judged as any phrase, and leaves a scope for what stands behind it.
 use Rattle.std.specs.Prelude.{◌≡◌, ℕ, ◌+◌, List, [], ◌∷◌, ◌++◌, Option, Some, option_map, Result, IfOk}
+use Rattle.std.specs.List.{sum_by}
 use Rattle.dbpl_base.specs.declared.memory.Memory.{Memory}
 use Rattle.dbpl_base.specs.declared.refusal.Refusal.{Refusal}
 use Rattle.dbpl_judging.specs.Checking.{Checking, noting}
@@ -75,6 +76,10 @@ each_staged_from count stage number [] setting = record { breaches = []; scope =
 each_staged_from count stage number (phrase ∷ phrases) setting =
     made_staged (λ parts. parts.0 ∷ parts.1)
     (both_staged (stage number phrase setting) (each_staged_from count stage (number + count phrase) phrases) setting)
+
+-- the number behind them
+abbrev pub number_behind : {A : Type 0} → (A → ℕ) → ℕ → List A → ℕ
+number_behind count number phrases = number + sum_by count phrases
 
 -- each of a list, one behind the other, with its number: the first has this one, the next one more
 abbrev pub each_staged_at : {A B : Type 0} → (ℕ → A → Setting → Staged B) → ℕ → List A → Setting → Staged (List B)

@@ -6,8 +6,8 @@ ghost use Rattle.dbpl_judging.specs.Judgements.{asks as asked, breach_of};
 ghost use Rattle.dbpl_judging.specs.Stages.{in_scope};
 ghost use Rattle.dbpl_symbols.specs.Scopes.{entered, left, with_pair};
 
-use crate::{Heading, Setting};
 use crate::nodes::room_behind;
+use crate::{Heading, Setting};
 use dbpl_base::limits::TYPE_NODES;
 use dbpl_base::{Memory, Name, Place, Refusal, Shared};
 use dbpl_symbols::{Decl, Origin};

@@ -1,6 +1,6 @@
 //! Parts of a tree, joined, boxed and listed. A part is let go of here, where its type is any: in a function that knows it to be
 //! a tree that costs its proof much. So no function of the rules owns a tree where it leaves by a `?` or for want of a part.
-ghost use Rattle.std.specs.Prelude.{◌≡◌, Err, IfErr, IfOk, IsOkAnd, Ok};
+ghost use Rattle.std.specs.Prelude.{◌≡◌, Err, IfErr, IfOk, IsOkAnd, None, Ok};
 ghost use Rattle.dbpl_judging.specs.Judgements.{added, paired};
 ghost use Rattle.dbpl_judging.specs.Parts.{with_part};
 
@@ -47,12 +47,13 @@ pub fn boxed<A: Drop, T: Drop>(alloc: Global, known: A, part: T) -> Result<(A, B
     Ok((known, part))
 }
 
-/// The list with one part more, or nothing where a part of it is missing.
+/// The list with one part more, or nothing where a part of it is missing, for which it takes no memory.
 pub fn pushed<T: Drop>(
     list: Option<List<T>>,
     part: Result<Option<T>, Memory>,
 ) -> Result<Option<List<T>>, Memory>
-    ensures { IfOk result (λ longer. IsOkAnd part (λ part. longer ≡ added list part)) }
+    ensures ok { IfOk result (λ longer. IsOkAnd part (λ part. longer ≡ added list part)) }
+    ensures missing { IsOkAnd part (λ part. paired list part ≡ None) → result ≡ Ok None }
 {
     match both_of(list, part?) {
         Some((mut list, part)) => {
