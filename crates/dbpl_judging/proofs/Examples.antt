@@ -1,11 +1,15 @@
 -- Worked judgements. `b := 1 + TRUE`, where b is a BOOLEAN, breaks S25 at the operator and nothing else: the assignment has no
 -- right side of which S54 could be asked.
-use Rattle.std.proofs.Common.{◌≡◌, ℕ, Bool, true, false, not, ◌&&◌, [], ◌∷◌, Some, None, refl}
+use Rattle.std.proofs.Common.{◌≡◌, ℕ, Bool, true, false, not, ◌&&◌, [], ◌∷◌, Option, Some, None, refl, ◌∙◌}
 use Rattle.dbpl_base.specs.declared.place.Place.{Place}
 use Rattle.dbpl_judging.specs.Checking.{least}
-use Rattle.dbpl_judging.specs.Judgements.{Judged, asks, both, breach_of, breaks, each, folded, good, silent, unbuilt, ◌>>=◌, ◌>>◌}
+use Rattle.dbpl_judging.specs.Judgements.{Judged, asks, both, breach_of, breaks, each, each_at, folded, good, made, silent, unbuilt, ◌>>=◌, ◌>>?◌, ◌>>◌}
+use Rattle.dbpl_judging.proofs.NodeLaws.{nodes_of_card, nodes_of_rec}
+use Rattle.dbpl_judging.specs.Nodes.{nodes_of}
+use Rattle.dbpl_judging.specs.Stages.{Staged, each_staged_from}
 use Rattle.dbpl_judging.specs.declared.kind.Kind.{Kind}
 use Rattle.dbpl_judging.specs.declared.kind.Kind.TheVariants as kinds
+use Rattle.dbpl_judging.specs.declared.setting.Setting.{Setting}
 use Rattle.dbpl_value.specs.declared.db_type.DbType.TheVariants as types
 
 abbrev at : ℕ → ℕ → Place
@@ -63,6 +67,35 @@ a_list = refl
 
 a_list_broken : each (λ phrase. phrase) (one ∷ unbuilt ∷ truth ∷ []) ≡ record { breaches = breach_of 109 (at 1 1) ∷ []; core = None }
 a_list_broken = refl
+
+-- `q(r)`, where neither is declared: the argument is judged although nothing is known of what is called
+argument_judged : breaks 10 (at 1 1) >>? (λ (callee : Option Kind). breaks {A = Kind} 10 (at 1 3))
+    ≡ record { breaches = breach_of 10 (at 1 1) ∷ breach_of 10 (at 1 3) ∷ []; core = None }
+argument_judged = refl
+
+-- the same where the name is that of a refused declaration, and by `>>=`: nothing is asked
+argument_left : silent >>= (λ (callee : Kind). breaks {A = Kind} 10 (at 1 3)) ≡ silent
+argument_left = refl
+
+-- numbers from 2 on
+with_numbers : each_at {B = ℕ × Kind} (λ number phrase. made (λ kind. (number, kind)) phrase) 2 (one ∷ truth ∷ [])
+    ≡ good ((2, kinds.Whole) ∷ (3, kinds.Of types.Bool) ∷ [])
+with_numbers = refl
+
+-- two sections of VAR, of two variables and of one, behind one parameter
+names_declared : ℕ → ℕ → Setting → Staged (ℕ × ℕ)
+names_declared number count setting = record { breaches = []; scope = setting.scope; core = Some (number, count) }
+
+through_sections : (setting : Setting) →
+    each_staged_from (λ count. count) names_declared 1 (2 ∷ 1 ∷ []) setting
+    ≡ record { breaches = []; scope = setting.scope; core = Some ((1, 2) ∷ (3, 1) ∷ []) }
+unfolding names_declared
+through_sections setting = refl
+
+-- ---- the nodes of a type
+
+record_nodes : nodes_of (types.Rec (record { name = 102 ∷ []; kind = types.Card } ∷ [])) ≡ 3
+record_nodes = nodes_of_rec (record { name = 102 ∷ []; kind = types.Card } ∷ []) ∙ rw (nodes_of_card) refl
 
 -- ---- the least
 

@@ -1,6 +1,6 @@
 -- That each word of judgements keeps the law that what is resolved breaks no rule. What goes on by `>>?` keeps it where that is
 -- said of it: what it gives without a core is no core.
-use Rattle.std.proofs.Common.{◌≡◌, ℕ, ◌+◌, Bool, true, false, List, [], ◌∷◌, ◌++◌, Option, Some, None, option_map, refl, sym, ap, ◌∙◌}
+use Rattle.std.proofs.Common.{◌≡◌, ℕ, ◌+◌, Bool, true, false, List, [], ◌∷◌, ◌++◌, Option, Some, None, option_map, refl, ap, ◌∙◌}
 use Rattle.dbpl_base.specs.declared.place.Place.{Place}
 use Rattle.dbpl_base.specs.declared.refusal.Refusal.{Refusal}
 use Rattle.dbpl_judging.specs.Judgements.{Judged, asks, both, breaks, each, each_at, folded, good, made, of, paired, silent, unbuilt, ◌>>=◌, ◌>>?◌, ◌>>◌}

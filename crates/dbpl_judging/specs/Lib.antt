@@ -2,6 +2,7 @@ pub mod Checking
 pub mod Headings
 pub mod Judgements
 pub mod Judging
+pub mod Nodes
 pub mod Parts
 pub mod Silences
 pub mod Speaks

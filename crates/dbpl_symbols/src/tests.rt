@@ -359,25 +359,46 @@ fn copies_sorts(alloc: Global) -> Result<bool, Memory> {
     )
 }
 
+fn declare(alloc: Global, scope: &mut Scope, name: &[u8], decl: Decl) -> Result<(), Memory> {
+    let name = name_of(alloc, name)?;
+    scope.add(alloc, &name, decl, Origin::Declared)
+}
+
+fn declare_variable(alloc: Global, scope: &mut Scope, unit: &Shared<Name>) -> Result<(), Memory> {
+    let kind = number_type(alloc)?;
+    let sort = Sort::Global(unit.share()?);
+    declare(alloc, scope, b"v", Decl::Variable(kind, sort))
+}
+
+fn declare_routine(alloc: Global, scope: &mut Scope, unit: &Shared<Name>) -> Result<(), Memory> {
+    let owner = unit.share()?;
+    let head = heading(alloc)?;
+    declare(alloc, scope, b"p", Decl::Routine(owner, head))
+}
+
+fn declare_all(alloc: Global, scope: &mut Scope, unit: &Shared<Name>) -> Result<(), Memory> {
+    scope.enter()?;
+    let kind = number_type(alloc)?;
+    declare(alloc, scope, b"T", Decl::Kind(kind))?;
+    declare_variable(alloc, scope, unit)?;
+    declare_routine(alloc, scope, unit)
+}
+
+fn shows_all(alloc: Global, exports: &Exports) -> Result<bool, Memory> {
+    Ok(exports.module.get().is(b"M")
+        && exports.pairs.len() == 3
+        && is_shown(alloc, exports, b"T")?
+        && is_shown(alloc, exports, b"v")?
+        && is_shown(alloc, exports, b"p")?)
+}
+
 /// A unit shows the type, the variable and the routine that it declares.
 fn whole_interface(alloc: Global) -> Result<bool, Memory> {
     let unit = word(alloc)?;
     let mut scope = make_scope(alloc)?;
-    scope.enter()?;
-    let kind = Decl::Kind(number_type(alloc)?);
-    scope.add(alloc, &name_of(alloc, b"T")?, kind, Origin::Declared)?;
-    let variable = Decl::Variable(number_type(alloc)?, Sort::Global(unit.share()?));
-    scope.add(alloc, &name_of(alloc, b"v")?, variable, Origin::Declared)?;
-    let routine = Decl::Routine(unit.share()?, heading(alloc)?);
-    scope.add(alloc, &name_of(alloc, b"p")?, routine, Origin::Declared)?;
+    declare_all(alloc, &mut scope, &unit)?;
     let exports = interface(alloc, &unit, &scope)?;
-    Ok(
-        exports.module.get().is(b"M")
-            && exports.pairs.len() == 3
-            && is_shown(alloc, &exports, b"T")?
-            && is_shown(alloc, &exports, b"v")?
-            && is_shown(alloc, &exports, b"p")?,
-    )
+    shows_all(alloc, &exports)
 }
 
 /// A parameter hides what has its name, and stands at the last level alone.
