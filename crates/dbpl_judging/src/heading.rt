@@ -5,7 +5,8 @@ use crate::Gives;
 use dbpl_base::{Memory, Shared};
 use dbpl_value::{DbType, Head};
 
-/// What the phrases in a routine ask of its heading. It is there of a heading that was refused, too, whatever is wrong with it.
+/// What the phrases in a routine ask of its heading. It is there of a heading that was refused, too, whatever is wrong
+/// with it.
 #[derive(Drop)]
 pub struct Heading {
     /// Whether the routine is a transaction.

@@ -6,7 +6,7 @@ use dbpl_base::Name;
 use dbpl_value::{DbType, Field};
 
 /// How many of so many nodes are left where those of the type are taken, or nothing where it has more.
-#[tactic(auto, using(crate::proofs::NodeLaws::nodes_of_int, crate::proofs::NodeLaws::nodes_of_card, crate::proofs::NodeLaws::nodes_of_bool, crate::proofs::NodeLaws::nodes_of_char, crate::proofs::NodeLaws::nodes_of_enum, crate::proofs::NodeLaws::nodes_of_sub, crate::proofs::NodeLaws::nodes_of_arr, crate::proofs::NodeLaws::nodes_of_rec, crate::proofs::NodeLaws::nodes_of_rel))]
+#[tactic(auto, using(crate::proofs::NodeLaws::nodes_of_rec))]
 #[cycle(nodes)]
 pub fn room_behind(room: u32, t: &DbType) -> Option<u32>
     ensures some { IfSome result (λ left. left + nodes_of t.now ≡ room) }

@@ -9,7 +9,8 @@ pub struct Setting {
     pub scope: Scope,
     /// The name of the module that is judged.
     pub module: Shared<Name>,
-    /// The heading of the routine that the phrase stands in, and none among the module's own declarations and in its body.
+    /// The heading of the routine that the phrase stands in, and none among the module's own declarations and in its
+    /// body.
     pub heading: Option<Heading>,
     /// Whether a LOOP of that routine, or of the body, stands around the phrase.
     pub in_loop: bool,

@@ -1,5 +1,5 @@
-//! The least of several breaches, and with ample memory each call that takes memory has its answer. Each row is a function of its
-//! own, so that few values are alive in it.
+//! The least of several breaches, and with ample memory each call that takes memory has its answer. Each row is a function
+//! of its own, so that few values are alive in it.
 use crate::{
     Checker, Gives, Heading, Kind, Setting, both_of, boxed, heading_of, kept, pair, pushed,
 };

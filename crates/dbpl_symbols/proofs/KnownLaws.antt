@@ -1,5 +1,5 @@
 -- Laws of what is known: of a name that is looked up, of what changes a scope, of what every text knows.
-use Rattle.std.proofs.Common.{codes, ℕ, ◌-◌, Bool, true, false, cond, List, [], ◌∷◌, filter, length, take, Option, Some, None, IfSome, option_map, subst, sym}
+use Rattle.std.proofs.Common.{codes, ℕ, ◌+◌, ◌-◌, ℤ, Bool, true, false, cond, List, [], ◌∷◌, filter, length, take, Option, Some, None, IfSome, option_map, subst, sym}
 use Rattle.std.proofs.lemmas.List.Elements.{All-append, All-cons, All-drop, All-filter, All-head, All-nil, All-push, All-tail, All-take}
 use Rattle.std.specs.List.{All}
 use Rattle.std.specs.Option.{option_map_or, option_or}
@@ -7,12 +7,19 @@ use Rattle.dbpl_symbols.proofs.PlaceLaws.{latest-cons}
 use Rattle.dbpl_symbols.specs.InOutNames.{in_out_exports, in_out_pairs, reading_pairs, writing_pairs}
 use Rattle.dbpl_symbols.specs.Interfaces.{exports_of, interface_of, is_own, shown}
 use Rattle.dbpl_symbols.specs.Known.{AreKnown, IsKnown, IsKnownDecl, IsKnownItself, IsKnownLevel, IsKnownThrough, ShowsKnown}
+use Rattle.dbpl_symbols.specs.Parameters.{param_pair, params_from, with_params}
 use Rattle.dbpl_symbols.specs.Scopes.{Declarations, entered, is_named, last_level, last_of, last_start, latest, left, seen, with_pair, with_pairs}
 use Rattle.dbpl_symbols.specs.StandardNames.{function_pairs, procedure_pairs, standard_pairs, standard_scope, truth_pairs, type_pairs}
 use Rattle.dbpl_symbols.specs.declared.decl.Decl.{Decl, Decl-F, out-Decl}
 use Rattle.dbpl_symbols.specs.declared.decl.Decl.TheOpen as decls
+use Rattle.dbpl_symbols.specs.declared.decl.Decl.TheVariants as forms
 use Rattle.dbpl_symbols.specs.declared.exports.Exports.{Exports, out-Exports, out-roll-Exports}
 use Rattle.dbpl_symbols.specs.declared.pair.Pair.{Pair}
+use Rattle.dbpl_symbols.specs.declared.sort.Sort.{Sort}
+use Rattle.dbpl_symbols.specs.declared.sort.Sort.TheVariants as sorts
+use Rattle.dbpl_value.specs.declared.db_type.DbType.{DbType}
+use Rattle.dbpl_value.specs.declared.head.Head.{Head}
+use Rattle.dbpl_value.specs.declared.param.Param.{Param}
 
 -- ---- what a name means is known
 
@@ -137,3 +144,40 @@ unfolding AllTrue reading_pairs writing_pairs out-Decl denote.Hole.Carrier.out
 in_out_known =
     shows (codes "InOut") in_out_pairs
     (all_true (λ (pair : Pair). IsKnownItself pair.decl) in_out_pairs (tt, (tt, (tt, (tt, (tt, (tt, (tt, (tt, (tt, tt))))))))))
+
+-- ---- a declaration of each form but those that may be unknown
+
+pub num_known : (kind : DbType) (number : ℤ) → IsKnownDecl (forms.Num kind number)
+unfolding out-Decl denote.Hole.Carrier.out
+num_known kind number = tt
+
+pub whole_known : (number : ℤ) → IsKnownDecl (forms.Whole number)
+unfolding out-Decl denote.Hole.Carrier.out
+whole_known number = tt
+
+pub text_known : (text : List ℕ) → IsKnownDecl (forms.Text text)
+unfolding out-Decl denote.Hole.Carrier.out
+text_known text = tt
+
+pub kind_known : (kind : DbType) → IsKnownDecl (forms.Kind kind)
+unfolding out-Decl denote.Hole.Carrier.out
+kind_known kind = tt
+
+pub variable_known : (kind : DbType) (sort : Sort) → IsKnownDecl (forms.Variable kind sort)
+unfolding out-Decl denote.Hole.Carrier.out
+variable_known kind sort = tt
+
+pub routine_known : (owner : List ℕ) (head : Head) → IsKnownDecl (forms.Routine owner head)
+unfolding out-Decl denote.Hole.Carrier.out
+routine_known owner head = tt
+
+-- ---- parameters
+
+pub params_known : (number : ℕ) (params : List Param) → AreKnown (params_from number params)
+params_known number [] = none_known
+params_known number (param ∷ params) =
+    more_known (param_pair number param) (params_from (number + 1) params) (variable_known param.kind (sorts.Param number))
+    (params_known (number + 1) params)
+
+pub with_params_known : (head : Head) (scope : Declarations) → IsKnown scope → IsKnown (with_params head scope)
+with_params_known head scope known = with_pairs_known (params_from 0 head.params) scope (params_known 0 head.params) known

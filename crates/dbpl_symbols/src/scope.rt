@@ -3,7 +3,7 @@ ghost use Rattle.std.specs.Prelude.{◌≡◌, ◌↔◌, ◌+◌, ◌++◌, [],
 ghost use Rattle.std.specs.Option.{option_copied};
 ghost use Rattle.dbpl_symbols.specs.Interfaces.{is_own};
 ghost use Rattle.dbpl_symbols.specs.Parameters.{param_pair, with_params};
-ghost use Rattle.dbpl_symbols.specs.Scopes.{empty_scope, entered, found, innermost, is_declared, last_level, last_start as last_start_of, left, levels, seen, with_last, with_pair, with_pairs};
+ghost use Rattle.dbpl_symbols.specs.Scopes.{empty_scope, entered, found, innermost, inside, is_declared, last_level, last_start as last_start_of, left, levels, seen, with_last, with_pair};
 ghost use Rattle.dbpl_symbols.specs.StandardNames.{own};
 ghost use Rattle.dbpl_symbols.specs.declared.declare_err.DeclareErr.TheVariants as refusals;
 ghost use Rattle.dbpl_symbols.specs.declared.pair.Pair.{Pair as AnyPair};
@@ -128,7 +128,8 @@ impl Scope {
         add(&mut self.held, &mut self.places, alloc, pair)
     }
 
-    /// Adds the parameters of a routine to the last level, numbered from 0. Where memory is wanting some of them may be added.
+    /// Adds the parameters of a routine to the last level, numbered from 0. Where memory is wanting some of them may be
+    /// added.
     pub fn add_params(&mut self, alloc: Global, head: &Head) -> Result<(), Memory>
         ensures { OnOk result (self.new ≡ with_params head.now self.old) }
     {
@@ -166,14 +167,14 @@ impl Scope {
         }
     }
 
-    /// A law, which does nothing. The declarations of a scope are those of its levels, one behind the other; there is one level
-    /// more than starts; a declaration stands at the last level; to enter adds a level, which has what is declared from then on;
-    /// a name means the latest declaration at the innermost level that has it.
+    /// A law, which does nothing. The declarations of a scope are those of its levels, one behind the other; there is one
+    /// level more than starts; a declaration stands at the last level; to enter adds a level, which has what is declared
+    /// from then on; a name means the latest declaration at the innermost level that has it.
     pub fn stands_in_levels(&self)
         ensures joined { flat_map (λ level. level) (levels self.now) ≡ self.now.pairs }
         ensures count { length (levels self.now) ≡ length self.now.starts + 1 }
         ensures declared { (pair : AnyPair) → levels (with_pair pair self.now) ≡ with_last pair (levels self.now) }
-        ensures entered { (more : Seq AnyPair) → levels (with_pairs more (entered self.now)) ≡ levels self.now ++ more ∷ [] }
+        ensures entered { (more : Seq AnyPair) → levels (inside more self.now) ≡ levels self.now ++ more ∷ [] }
         ensures found { (name : Seq ℕ) → found name self.now ≡ innermost name (reverse (levels self.now)) }
     {
         let _ = &self.held;

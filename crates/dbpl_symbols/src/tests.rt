@@ -1,5 +1,5 @@
-// With ample memory each call has its answer, also where there are many names. Each row is a function of its own, so that
-// few values are alive in it.
+// With ample memory each call has its answer, also where there are many names. Each row is a function of its own, so
+// that few values are alive in it.
 use crate::{
     Decl, DeclareErr, Exports, Origin, Scope, Sort, StandardProcedure, copy_decl, copy_sort,
     exported, in_out, interface, make_scope,
@@ -385,11 +385,13 @@ fn declare_all(alloc: Global, scope: &mut Scope, unit: &Shared<Name>) -> Result<
 }
 
 fn shows_all(alloc: Global, exports: &Exports) -> Result<bool, Memory> {
-    Ok(exports.module.get().is(b"M")
-        && exports.pairs.len() == 3
-        && is_shown(alloc, exports, b"T")?
-        && is_shown(alloc, exports, b"v")?
-        && is_shown(alloc, exports, b"p")?)
+    Ok(
+        exports.module.get().is(b"M")
+            && exports.pairs.len() == 3
+            && is_shown(alloc, exports, b"T")?
+            && is_shown(alloc, exports, b"v")?
+            && is_shown(alloc, exports, b"p")?,
+    )
 }
 
 /// A unit shows the type, the variable and the routine that it declares.
