@@ -110,6 +110,10 @@ by_rule = refl
 by_column : least (breach_of 10 (at 1 9) ∷ breach_of 9 (at 1 10) ∷ breach_of 54 (at 1 3) ∷ []) ≡ Some (breach_of 54 (at 1 3))
 by_column = refl
 
--- else the lesser line, whatever the column
+-- else the lesser unit, whatever the line
+by_unit : least (breach_of 9 (record { unit = 1; line = 1; col = 1 }) ∷ breach_of 54 (at 9 9) ∷ []) ≡ Some (breach_of 54 (at 9 9))
+by_unit = refl
+
+-- in one unit the lesser line, whatever the column
 by_line : least (breach_of 9 (at 2 1) ∷ breach_of 54 (at 1 80) ∷ breach_of 1 (at 10 1) ∷ []) ≡ Some (breach_of 54 (at 1 80))
 by_line = refl

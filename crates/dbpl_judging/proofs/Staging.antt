@@ -1,6 +1,6 @@
 -- THE laws of sequencing for what declares: the same as those of phrases, with the scope handed on.
 use Rattle.std.proofs.Common.{◌≡◌, ℕ, ◌+◌, ◌<◌, List, [], ◌∷◌, ◌++◌, length, take, get_or, Option, Some, option_map, Result, Ok, Err, IsOkAnd, refl, sym, ap, ◌∙◌, subst, append_assoc, append-nil, arith}
-use Rattle.std.proofs.lemmas.List.{take_more}
+use Rattle.std.proofs.lemmas.List.{length-take-le, take_more}
 use Rattle.std.proofs.lemmas.List.Sums.{sum_by-append, sum_by-cons}
 use Rattle.std.specs.List.{sum_by}
 use Rattle.dbpl_base.specs.declared.memory.Memory.{Memory}
@@ -10,7 +10,7 @@ use Rattle.dbpl_judging.proofs.Lists.{one_core, put_before}
 use Rattle.dbpl_judging.specs.Checking.{Checking, noting}
 use Rattle.dbpl_judging.specs.Judging.{Judges}
 use Rattle.dbpl_judging.specs.Judgements.{Judged, added, paired}
-use Rattle.dbpl_judging.specs.Stages.{Adds, Staged, Stages, after, both_staged, each_staged, each_staged_from, in_level, in_scope, known_staged, leaving, number_behind, then_staged, under}
+use Rattle.dbpl_judging.specs.Stages.{Adds, Staged, Stages, after, both_staged, each_staged, each_staged_at, each_staged_from, in_level, in_scope, known_staged, leaving, number_behind, then_staged, under}
 use Rattle.dbpl_judging.specs.declared.setting.Setting.{Setting}
 use Rattle.dbpl_symbols.proofs.ScopeLaws.{left_again}
 use Rattle.dbpl_symbols.specs.Scopes.{Declarations, entered, left, with_pair, with_pairs}
@@ -339,3 +339,25 @@ one_number_more count first phrases at number next phrase within counted is more
     ap (sum_by count) whole ∙ sum_by-append count (take at phrases) (phrase ∷ [])
     ∙ ap (λ n. sum_by count (take at phrases) + n) (one_counted count phrase) in
     omega (arith, counted, more, sums)
+
+-- ---- lists of stages with positions
+
+sum_ones : {A : Type 0} (xs : List A) → sum_by (λ _. 1) xs ≡ length xs
+sum_ones [] = omega arith
+sum_ones (x ∷ xs) = omega (arith, sum_by-cons (λ _. 1) x xs, sum_ones xs)
+
+ones_behind : {A : Type 0} (first : ℕ) (phrases : List A) (at : ℕ) → at < length phrases → first + at ≡ number_behind (λ _. 1) first (take at phrases)
+ones_behind first phrases at within =
+    omega (arith, sum_ones (take at phrases), length-take-le at phrases (omega (arith, within)))
+
+-- the same turn where each takes one number
+pub one_more_stage_at :
+    {P B : Type 0} (stage : ℕ → P → Setting → Staged B) (first : ℕ) (phrases : List P) (at number : ℕ) (phrase : P)
+    (list : Option (List B)) (answer : Result (Option B) Memory) (longer : Option (List B)) (old middle new : Checking) →
+    at < length phrases → number ≡ first + at → phrase ≡ get_or phrases at phrase →
+    Stages (each_staged_at stage first (take at phrases) old.setting) (Ok list) old middle →
+    Stages (stage number phrase middle.setting) answer middle new → IsOkAnd answer (λ part. longer ≡ added list part) →
+    Stages (each_staged_at stage first (take (at + 1) phrases) old.setting) (Ok longer) old new
+one_more_stage_at stage first phrases at number phrase list answer longer old middle new within counted is before also joined =
+    one_more_stage_from (λ _. 1) stage first phrases at number phrase list answer longer old middle new within
+    (counted ∙ ones_behind first phrases at within) is before also joined
