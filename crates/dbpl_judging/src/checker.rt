@@ -122,7 +122,7 @@ impl Checker {
         self.setting.scope.add(alloc, name, decl, origin)
     }
 
-    /// Says in which routine stands what is judged from now on, by its heading, or in none. Answers what was said before.
+    /// Says in which routine stands what is judged from now on, by its heading, or in none. Answers what stood there.
     pub fn set_heading(&mut self, heading: Option<Heading>) -> Option<Heading>
         ensures before { result ≡ self.old.setting.heading }
         ensures after { self.new ≡ record self.old { setting = record self.old.setting { heading = heading } } }

@@ -1,5 +1,5 @@
-//! The least of several breaches, and with ample memory each call that takes memory has its answer. Each row is a function
-//! of its own, so that few values are alive in it.
+//! The least of several breaches, and with ample memory each call that takes memory has its answer. Each row is a
+//! function of its own, so that few values are alive in it.
 use crate::{
     Checker, Gives, Heading, Kind, Setting, both_of, boxed, heading_of, kept, pair, pushed,
 };
@@ -163,6 +163,8 @@ fn pushes_no_missing(alloc: Global) -> Result<bool, Memory> {
 
 fn changes(alloc: Global) -> Result<bool, Memory> {
     let (mut checker, name) = pair(checker_of(alloc)?, name_of(alloc, b"x"))?;
+    let _ = checker.asks(54, at(9, 9), false);
+    let _ = checker.asks(9, at(1, 1), true);
     checker.breaks(12, at(1, 2));
     checker.unbuilt();
     let is_unbuilt = least_so_far(&checker) == Some((1, 1, 109));

@@ -19,8 +19,8 @@ pub fn first_names_are_known()
     ensures in_out { ShowsKnown in_out_exports }
 {}
 
-/// In a scope that is known a name means what is known, and so does a name behind that of a unit; and what a unit shows of
-/// a scope that is known is known.
+/// In a scope that is known a name means what is known, and so does a name behind that of a unit; and what a unit shows
+/// of a scope that is known is known.
 pub fn known_names()
     ensures seen { (scope : Declarations) → IsKnown scope → (name : List ℕ) → IfSome (seen name scope) IsKnownDecl }
     ensures shown { (unit : AnyExports) → ShowsKnown unit → (name : List ℕ) → IfSome (shown name unit) IsKnownItself }

@@ -167,9 +167,9 @@ impl Scope {
         }
     }
 
-    /// A law, which does nothing. The declarations of a scope are those of its levels, one behind the other; there is one
-    /// level more than starts; a declaration stands at the last level; to enter adds a level, which has what is declared
-    /// from then on; a name means the latest declaration at the innermost level that has it.
+    /// A law, which does nothing. The declarations of a scope are those of its levels, one behind the other; there is
+    /// one level more than starts; a declaration stands at the last level; to enter adds a level, which has what is
+    /// declared from then on; a name means the latest declaration at the innermost level that has it.
     pub fn stands_in_levels(&self)
         ensures joined { flat_map (λ level. level) (levels self.now) ≡ self.now.pairs }
         ensures count { length (levels self.now) ≡ length self.now.starts + 1 }
