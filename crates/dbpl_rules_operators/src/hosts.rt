@@ -1,6 +1,5 @@
 //! Hosts of types and of phrases.
-ghost use Rattle.std.specs.Prelude.{◌≡◌, ℕ};
-ghost use Rattle.dbpl_judging.specs.declared.kind.Kind.TheVariants as phrases;
+ghost use Rattle.std.specs.Prelude.{◌≡◌};
 ghost use Rattle.dbpl_rules_operators.specs.Hosts.{has_one_host as have_one_host, host as host_of_phrase, host_of, host_type as type_of_host, plain_host as host_of_level};
 ghost use Rattle.dbpl_value.specs.declared.db_type.DbType.{out-DbType};
 
@@ -51,13 +50,8 @@ pub fn phrase_host(kind: &Kind) -> Host
 {
     match kind {
         Kind::Whole => Host::Whole,
-        Kind::Text(length, _) => text_host(*length),
+        Kind::Text(1, _) => Host::Char,
+        Kind::Text(_, _) => Host::Other,
         Kind::Of(t) => type_host(t.get()),
     }
-}
-
-fn text_host(length: u64) -> Host
-    ensures { (first : ℕ) → result ≡ host_of_phrase (phrases.Text length first) }
-{
-    if length == 1 { Host::Char } else { Host::Other }
 }
