@@ -130,16 +130,15 @@ compared_as one other =
     if is_other (host one) then comparisons.Values else if is_other (host other) then comparisons.Values else comparisons.Numbers
 
 -- an operand beside one of this kind: a string has the array's type beside an array, and is its character beside a CHAR
-abbrev pub operand : Kind → Typed → CoreExpr
+unfoldable pub operand : Kind → Typed → CoreExpr
 operand (phrases.Of t) e = taken t e
 operand _ e = as_ordinal e
+
+unfoldable pub compared_tree : Place → Relation → Typed → Typed → CoreExpr
+compared_tree place relation a b =
+    trees.Compared a.facts.place place relation (compared_as a.facts.kind b.facts.kind) (operand b.facts.kind a) (operand a.facts.kind b)
 
 -- THE judgement of a relation between two operands
 unfoldable pub compared : Place → Relation → Typed → Typed → Judged Typed
 compared place relation a b =
-    compared_facts place relation a.facts b.facts >>= λ facts.
-    good
-    (typed
-    (trees.Compared a.facts.place place relation (compared_as a.facts.kind b.facts.kind) (operand b.facts.kind a)
-    (operand a.facts.kind b))
-    facts)
+    compared_facts place relation a.facts b.facts >>= λ facts. good (typed (compared_tree place relation a b) facts)

@@ -3,7 +3,7 @@ ghost use Rattle.std.specs.Prelude.{◌≡◌, is_some, IfOk};
 ghost use Rattle.dbpl_judging.specs.Checking.{noting};
 ghost use Rattle.dbpl_judging.specs.Judgements.{of_both};
 ghost use Rattle.dbpl_judging.specs.Judging.{Judges};
-ghost use Rattle.dbpl_rules_operators.specs.Operators.{compared as judged, compared_as as comparison_of, compared_facts as judged_facts, compared_rules as judged_rules, operand as operand_of, relation_rule as rule_of};
+ghost use Rattle.dbpl_rules_operators.specs.Operators.{compared as judged, compared_as as comparison_of, compared_facts as judged_facts, compared_rules as judged_rules, compared_tree as tree_of, operand as operand_of, relation_rule as rule_of};
 
 use crate::constants::reckoned_relation;
 use crate::deciding::boolean;
@@ -71,6 +71,7 @@ fn compared_as(one: &Kind, other: &Kind) -> Comparison
 }
 
 /// An operand beside one of this kind.
+#[tactic(auto, unfolding(crate::specs::Operators::operand))]
 fn operand(
     alloc: Global,
     kind: &Kind,
@@ -89,9 +90,31 @@ fn operand(
 fn operands(alloc: Global, a: Typed, b: Typed) -> Result<(Boxed<CoreExpr>, Boxed<CoreExpr>), Memory>
     ensures { IfOk result (λ both. (both.0 ≡ operand_of b.facts.kind a) × (both.1 ≡ operand_of a.facts.kind b)) }
 {
-    let left = operand(alloc, &b.facts.kind, &a.facts, a.tree);
-    let (right, left) = pair(b.tree, left)?;
-    pair(left, operand(alloc, &a.facts.kind, &b.facts, right))
+    let Typed { facts: one, tree: left } = a;
+    let Typed {
+        facts: other,
+        tree: right,
+    } = b;
+    let (right, left) = pair(right, operand(alloc, &other.kind, &one, left))?;
+    pair(left, operand(alloc, &one.kind, &other, right))
+}
+
+#[tactic(auto, unfolding(crate::specs::Operators::compared_tree))]
+fn compared_tree(
+    alloc: Global,
+    place: Place,
+    relation: Relation,
+    a: Typed,
+    b: Typed,
+) -> Result<CoreExpr, Memory>
+    ensures { IfOk result (λ tree. tree ≡ tree_of place relation a b) }
+{
+    let first = a.facts.place;
+    let comparison = compared_as(&a.facts.kind, &b.facts.kind);
+    let (left, right) = operands(alloc, a, b)?;
+    Ok(CoreExpr::Compared(
+        first, place, relation, comparison, left, right,
+    ))
 }
 
 /// A relation, which stands at this place, between two operands.
@@ -113,10 +136,7 @@ pub fn compared(
     let Some(((a, b), facts)) = kept((a, b), facts)? else {
         return Ok(None);
     };
-    let first = a.facts.place;
-    let comparison = compared_as(&a.facts.kind, &b.facts.kind);
-    let (left, right) = operands(alloc, a, b)?;
-    let tree = CoreExpr::Compared(first, place, relation, comparison, left, right);
+    let (facts, tree) = pair(facts, compared_tree(alloc, place, relation, a, b))?;
     let (facts, tree) = boxed(alloc, facts, tree)?;
     Ok(Some(Typed { facts, tree }))
 }
