@@ -26,7 +26,7 @@ text_speaks place bytes = search (good_speaks)
 -- ---- operators
 
 pub signed_speaks : (place : Place) (sign : Sign) (a : Typed) → Speaks (signed place sign a)
-unfolding signed, signed_facts
+unfolding signed signed_facts
 signed_speaks place sign a = search (then_speaks, after_speaks, asks_speaks, good_speaks)
 
 beside_speaks : (a b : Facts) → Speaks (beside a b)
@@ -38,15 +38,15 @@ unfolding arithmetic_rules
 arithmetic_rules_speaks place operator a b = search (both_speaks, asks_speaks, beside_speaks)
 
 pub arithmetic_speaks : (place : Place) (operator : ArithmeticOperator) (a b : Typed) → Speaks (arithmetic place operator a b)
-unfolding arithmetic, arithmetic_facts
+unfolding arithmetic arithmetic_facts
 arithmetic_speaks place operator a b = search (then_speaks, after_speaks, arithmetic_rules_speaks, asks_speaks, good_speaks)
 
 pub logical_speaks : (place : Place) (operator : LogicalOperator) (a b : Typed) → Speaks (logical place operator a b)
-unfolding logical, logical_facts
+unfolding logical logical_facts
 logical_speaks place operator a b = search (then_speaks, after_speaks, asks_speaks, good_speaks)
 
 pub negated_speaks : (place : Place) (a : Typed) → Speaks (negated place a)
-unfolding negated, negated_facts
+unfolding negated negated_facts
 negated_speaks place a = search (then_speaks, after_speaks, asks_speaks, good_speaks)
 
 compared_rules_speaks : (place : Place) (relation : Relation) (a b : Facts) → Speaks (compared_rules place relation a b)
@@ -54,5 +54,5 @@ unfolding compared_rules
 compared_rules_speaks place relation a b = search (both_speaks, asks_speaks, beside_speaks)
 
 pub compared_speaks : (place : Place) (relation : Relation) (a b : Typed) → Speaks (compared place relation a b)
-unfolding compared, compared_facts
+unfolding compared compared_facts
 compared_speaks place relation a b = search (then_speaks, after_speaks, compared_rules_speaks, good_speaks)
