@@ -90,7 +90,10 @@ fn operand(
 fn operands(alloc: Global, a: Typed, b: Typed) -> Result<(Boxed<CoreExpr>, Boxed<CoreExpr>), Memory>
     ensures { IfOk result (λ both. (both.0 ≡ operand_of b.facts.kind a) × (both.1 ≡ operand_of a.facts.kind b)) }
 {
-    let Typed { facts: one, tree: left } = a;
+    let Typed {
+        facts: one,
+        tree: left,
+    } = a;
     let Typed {
         facts: other,
         tree: right,
@@ -112,9 +115,7 @@ fn compared_tree(
     let first = a.facts.place;
     let comparison = compared_as(&a.facts.kind, &b.facts.kind);
     let (left, right) = operands(alloc, a, b)?;
-    Ok(CoreExpr::Compared(
-        first, place, relation, comparison, left, right,
-    ))
+    Ok(CoreExpr::Compared(first, place, relation, comparison, left, right))
 }
 
 /// A relation, which stands at this place, between two operands.

@@ -12,6 +12,8 @@ mod parts;
 mod reckoning;
 mod rules;
 mod signing;
+#[cfg(test)]
+mod tests;
 
 pub use comparing::compared;
 pub use deciding::{logical, negated};
