@@ -5,7 +5,7 @@ use Rattle.dbpl_base.specs.declared.place.Place.{Place}
 use Rattle.dbpl_base.specs.declared.refusal.Refusal.{Refusal}
 use Rattle.dbpl_judging.proofs.Least.{noting-append}
 use Rattle.dbpl_judging.specs.Checking.{Checking, noting}
-use Rattle.dbpl_judging.specs.Judgements.{Judged, asks, breach_of, good, ◌>>=◌, ◌>>◌}
+use Rattle.dbpl_judging.specs.Judgements.{Judged, asks, breach_of, good, ◌>>◌}
 use Rattle.dbpl_judging.specs.Judging.{Judges}
 use Rattle.dbpl_rules_operators.specs.Rules.{S15, lawful}
 
@@ -18,8 +18,9 @@ pub unlawful : (number : Option ℤ) → lawful number ≡ None → S15 number �
 unlawful number none = unlawful_by number (S15 number) none
 
 broken_by :
-    {A B : Type 0} (core : Option A) (breaches : List Refusal) (rule : ℕ) (place : Place) (holds : Bool) (made : B) (old middle new : Checking) →
-    is_some core ≡ true → middle ≡ noting breaches old → holds ≡ false → new ≡ noting (breach_of rule place ∷ []) middle →
+    {A B : Type 0} (core : Option A) (breaches : List Refusal) (rule : ℕ) (place : Place) (holds : Bool) (made : B)
+    (old middle new : Checking) → is_some core ≡ true → middle ≡ noting breaches old → holds ≡ false →
+    new ≡ noting (breach_of rule place ∷ []) middle →
     Judges (record { breaches = breaches; core = core } >> asks rule place holds >> good made) (Ok None) old new
 broken_by None breaches rule place holds made old middle new kept is broken noted = absurd (cc)
 broken_by (Some core) breaches rule place true made old middle new kept is broken noted = absurd (cc)
@@ -32,6 +33,7 @@ broken_by (Some core) breaches rule place false made old middle new kept is brok
 -- where the first rules hold, the next one may be broken
 pub broken_behind :
     {A B : Type 0} (rules : Judged A) (rule : ℕ) (place : Place) (holds : Bool) (made : B) (old middle new : Checking) →
-    is_some rules.core ≡ true → middle ≡ noting rules.breaches old → holds ≡ false → new ≡ noting (breach_of rule place ∷ []) middle →
+    is_some rules.core ≡ true → middle ≡ noting rules.breaches old → holds ≡ false →
+    new ≡ noting (breach_of rule place ∷ []) middle →
     Judges (rules >> asks rule place holds >> good made) (Ok None) old new
 broken_behind rules = broken_by rules.core rules.breaches

@@ -1,5 +1,6 @@
--- Worked judgements, under VAR c: CARDINAL; i: INTEGER; b: BOOLEAN; a: ARRAY [1 .. 3] OF CHAR. Each place is the column in the expression.
-use Rattle.std.proofs.Common.{◌≡◌, ℕ, Bool, true, false, ℤ, pos, negsuc, List, [], ◌∷◌, Some, None, refl}
+-- Worked judgements, under VAR c: CARDINAL; i: INTEGER; b: BOOLEAN; a: ARRAY [1 .. 3] OF CHAR. Each place is the column in
+-- the expression.
+use Rattle.std.proofs.Common.{◌≡◌, ℕ, true, false, ℤ, pos, negsuc, List, [], ◌∷◌, Some, None, refl}
 use Rattle.dbpl_base.specs.declared.place.Place.{Place}
 use Rattle.dbpl_core.specs.declared.arithmetic_operator.ArithmeticOperator.TheVariants as operators
 use Rattle.dbpl_core.specs.declared.logical_operator.LogicalOperator.TheVariants as logic
@@ -114,7 +115,8 @@ abbrev some_characters : DbType
 some_characters = types.Sub types.Char (pos 98) (pos 100)
 
 -- `a = 'abcd'`
-string_too_long : compared_facts (at 3) relations.Equal (variable 1 chars) (string 5 (97 ∷ 98 ∷ 99 ∷ 100 ∷ [])) ≡ broken 27 3
+string_too_long :
+    compared_facts (at 3) relations.Equal (variable 1 chars) (string 5 (97 ∷ 98 ∷ 99 ∷ 100 ∷ [])) ≡ broken 27 3
 unfolding compared_facts compared_rules beside
 string_too_long = simp (types.outs-Arr, types.outs-Sub, types.outs-Char) refl
 

@@ -1,5 +1,5 @@
 -- That no operand or constant is refused without a breach.
-use Rattle.std.proofs.Common.{ℕ, ℤ, List}
+use Rattle.std.proofs.Common.{ℕ, List}
 use Rattle.dbpl_base.specs.declared.place.Place.{Place}
 use Rattle.dbpl_core.specs.declared.arithmetic_operator.ArithmeticOperator.{ArithmeticOperator}
 use Rattle.dbpl_core.specs.declared.logical_operator.LogicalOperator.{LogicalOperator}
@@ -33,13 +33,16 @@ beside_speaks : (a b : Facts) → Speaks (beside a b)
 unfolding beside
 beside_speaks a b = search (both_speaks, asks_speaks)
 
-arithmetic_rules_speaks : (place : Place) (operator : ArithmeticOperator) (a b : Facts) → Speaks (arithmetic_rules place operator a b)
+arithmetic_rules_speaks :
+    (place : Place) (operator : ArithmeticOperator) (a b : Facts) → Speaks (arithmetic_rules place operator a b)
 unfolding arithmetic_rules
 arithmetic_rules_speaks place operator a b = search (both_speaks, asks_speaks, beside_speaks)
 
-pub arithmetic_speaks : (place : Place) (operator : ArithmeticOperator) (a b : Typed) → Speaks (arithmetic place operator a b)
+pub arithmetic_speaks :
+    (place : Place) (operator : ArithmeticOperator) (a b : Typed) → Speaks (arithmetic place operator a b)
 unfolding arithmetic arithmetic_facts
-arithmetic_speaks place operator a b = search (then_speaks, after_speaks, arithmetic_rules_speaks, asks_speaks, good_speaks)
+arithmetic_speaks place operator a b =
+    search (then_speaks, after_speaks, arithmetic_rules_speaks, asks_speaks, good_speaks)
 
 pub logical_speaks : (place : Place) (operator : LogicalOperator) (a b : Typed) → Speaks (logical place operator a b)
 unfolding logical logical_facts

@@ -1,5 +1,5 @@
 -- Which phrases fit a type, and what stands in the tree where a value of the type is asked for.
-use Rattle.std.specs.Prelude.{ℕ, Bool, true, false, ◌&&◌, ◌||◌, ◌==◌, nat_le, if◌then◌else◌, ℤ, pos, Option, Some, None}
+use Rattle.std.specs.Prelude.{ℕ, Bool, true, ◌&&◌, ◌||◌, ◌==◌, nat_le, if◌then◌else◌, ℤ, pos, Option, Some, None}
 use Rattle.std.specs.Option.{option_map_or}
 use Rattle.dbpl_base.specs.declared.place.Place.{Place}
 use Rattle.dbpl_core.specs.declared.expr.CoreExpr.{CoreExpr, CoreExpr-F, out-CoreExpr}
@@ -22,12 +22,14 @@ index_level t _ = t
 abbrev pub index_of : DbType → DbType
 index_of t = index_level t (out-DbType t)
 
--- a string of so many characters can be a value of the type: an array of CHAR that is as long or longer, or one character of CHAR
+-- a string of so many characters can be a value of the type: an array of CHAR that is as long or longer, or one character
+-- of CHAR
 abbrev pub takes_text : DbType → ℕ → Bool
-takes_text t length = (length == 1 && is_character (host_of t)) || (is_char_array t && nat_le length (count_of (index_of t)))
+takes_text t length =
+    (length == 1 && is_character (host_of t)) || (is_char_array t && nat_le length (count_of (index_of t)))
 
--- THE phrases that have the type's host or are of the type itself: a whole constant has every whole host, and a string is of
--- each array that takes it
+-- THE phrases that have the type's host or are of the type itself: a whole constant has every whole host, and a string is
+-- of each array that takes it
 abbrev pub takes : DbType → Kind → Bool
 takes t phrases.Whole = is_whole (host_of t)
 takes t (phrases.Text length first) = takes_text t length
@@ -38,8 +40,8 @@ abbrev pub lies_in : DbType → Option ℤ → Bool
 lies_in t None = true
 lies_in t (Some n) = option_map_or (λ range. is_in range n) (range_of t) true
 
--- THE phrases that are assignable to a type: those that it takes, and each whole one where it is whole. An ordinal constant
--- must lie in it.
+-- THE phrases that are assignable to a type: those that it takes, and each whole one where it is whole. An ordinal
+-- constant must lie in it.
 abbrev pub fits : DbType → Facts → Bool
 fits t facts = (takes t facts.kind || (is_whole (host facts.kind) && is_whole (host_of t))) && lies_in t facts.number
 

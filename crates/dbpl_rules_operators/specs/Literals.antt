@@ -2,7 +2,7 @@
 use Rattle.std.specs.Prelude.{ℕ, List, [], ◌∷◌, length, ℤ, pos, Option, Some, None}
 use Rattle.dbpl_base.specs.declared.place.Place.{Place}
 use Rattle.dbpl_core.specs.declared.expr.CoreExpr.TheVariants as trees
-use Rattle.dbpl_judging.specs.Judgements.{Judged, asks, good, ◌>>=◌, ◌>>◌}
+use Rattle.dbpl_judging.specs.Judgements.{Judged, asks, good, ◌>>◌}
 use Rattle.dbpl_judging.specs.declared.kind.Kind.{Kind}
 use Rattle.dbpl_judging.specs.declared.kind.Kind.TheVariants as phrases
 use Rattle.dbpl_judging.specs.declared.typed.Typed.{Typed}

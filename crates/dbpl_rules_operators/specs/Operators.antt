@@ -1,6 +1,6 @@
--- Operators: which rules are asked of their operands, at which place, and what they make of operands that keep them. Rules that
--- are broken independently stand side by side (`both`); behind `>>` stands what needs them kept.
-use Rattle.std.specs.Prelude.{ℕ, ℤ, Bool, ◌&&◌, if◌then◌else◌, Option}
+-- Operators: which rules are asked of their operands, at which place, and what they make of operands that keep them. Rules
+-- that are broken independently stand side by side (`both`); behind `>>` stands what needs them kept.
+use Rattle.std.specs.Prelude.{ℕ, ℤ, Bool, ◌&&◌, ◌||◌, if◌then◌else◌, Option}
 use Rattle.dbpl_base.specs.declared.place.Place.{Place}
 use Rattle.dbpl_core.specs.declared.arithmetic_operator.ArithmeticOperator.{ArithmeticOperator}
 use Rattle.dbpl_core.specs.declared.comparison.Comparison.{Comparison}
@@ -77,7 +77,8 @@ arithmetic place operator a b =
     arithmetic_facts place operator a.facts b.facts >>= λ facts.
     good
     (typed
-    (trees.Arithmetic a.facts.place place operator (result_host (joined (host a.facts.kind) (host b.facts.kind))) a.tree b.tree)
+    (trees.Arithmetic a.facts.place place operator
+    (result_host (joined (host a.facts.kind) (host b.facts.kind))) a.tree b.tree)
     facts)
 
 -- ---- AND, OR and NOT
@@ -127,7 +128,7 @@ compared_facts place relation a b =
 -- by their numbers where both are ordinal, else as values
 abbrev pub compared_as : Kind → Kind → Comparison
 compared_as one other =
-    if is_other (host one) then comparisons.Values else if is_other (host other) then comparisons.Values else comparisons.Numbers
+    if is_other (host one) || is_other (host other) then comparisons.Values else comparisons.Numbers
 
 -- an operand beside one of this kind: a string has the array's type beside an array, and is its character beside a CHAR
 unfoldable pub operand : Kind → Typed → CoreExpr
@@ -136,7 +137,8 @@ operand _ e = as_ordinal e
 
 unfoldable pub compared_tree : Place → Relation → Typed → Typed → CoreExpr
 compared_tree place relation a b =
-    trees.Compared a.facts.place place relation (compared_as a.facts.kind b.facts.kind) (operand b.facts.kind a) (operand a.facts.kind b)
+    trees.Compared a.facts.place place relation (compared_as a.facts.kind b.facts.kind)
+    (operand b.facts.kind a) (operand a.facts.kind b)
 
 -- THE judgement of a relation between two operands
 unfoldable pub compared : Place → Relation → Typed → Typed → Judged Typed

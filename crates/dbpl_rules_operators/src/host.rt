@@ -7,8 +7,8 @@ use dbpl_judging::Kind;
 use dbpl_value::DbType;
 use std::alloc::Global;
 
-/// What a phrase counts as for the rules of operators: its host, where it is ordinal. The host of a subrange is the type of
-/// its bounds.
+/// What a phrase counts as for the rules of operators: its host, where it is ordinal. The host of a subrange is the type
+/// of its bounds.
 #[derive(Clone, Copy, Debug, PartialEq, Eq)]
 pub enum Host {
     /// A whole constant, which has no type of its own.

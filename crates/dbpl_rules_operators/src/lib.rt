@@ -1,4 +1,5 @@
-//! The rules of operators and of constants: what operands they take, what is reckoned of constants, and which phrases fit a type.
+//! The rules of operators and of constants: what operands they take, what is reckoned of constants, and which phrases
+//! fit a type.
 #![tactic(auto)]
 
 mod comparing;

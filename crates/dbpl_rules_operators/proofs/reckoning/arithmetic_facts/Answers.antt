@@ -9,8 +9,8 @@ use Rattle.dbpl_rules_operators.specs.Rules.{S15}
 pub returns-in_default : goal.returns-in_default
 unfolding arithmetic_facts
 returns-in_default c =
-    let a = c.args.a.now in let b = c.args.b.now in
-    broken_behind (judged_rules c.args.place c.args.operator a b) 15 c.args.place
-    (S15 (reckoned_of c.args.operator a.number b.number)) _ c.args.checker.now c.arithmetic_rules.new.checker c.breaks.new.self
-    (sym c.if-not-arithmetic_rules.ensures.answer) c.arithmetic_rules.ensures.noted (unlawful (reckoned_of c.args.operator a.number b.number) (sym c.reckoned.ensures ∙ c.in_default.is))
-    c.breaks.ensures
+    let number = reckoned_of c.args.operator c.args.a.now.number c.args.b.now.number in
+    broken_behind (judged_rules c.args.place c.args.operator c.args.a.now c.args.b.now) 15 c.args.place (S15 number) _
+    c.args.checker.now c.arithmetic_rules.new.checker c.breaks.new.self
+    (sym c.if-not-arithmetic_rules.ensures.answer) c.arithmetic_rules.ensures.noted
+    (unlawful number (sym c.reckoned.ensures ∙ c.in_default.is)) c.breaks.ensures
