@@ -1,22 +1,24 @@
-//! Operators between operands of each sort, and what fits a type, with ample memory.
+//! Operators between operands of each sort, and strings as values of a type, with ample memory.
 use crate::{
-    Host, arithmetic, character, compared, fits, fitted, logical, negated, number,
-    ordinal_constant, phrase_host, signed, text, whole_constant,
+    Host, arithmetic, character, compared, fitted, logical, negated, number, ordinal_constant,
+    phrase_host, signed, text, whole_constant,
 };
-use dbpl_base::{Boxed, List, Memory, Place, Shared, name_of};
+use dbpl_base::{Boxed, Memory, Place, Shared, name_of};
 use dbpl_core::{ArithmeticOperator, CoreExpr, LogicalOperator, Relation, Sign};
 use dbpl_judging::{Checker, Facts, Kind, Setting, Typed, pair};
 use dbpl_symbols::make_scope;
-use dbpl_value::{DbType, Head};
+use dbpl_value::DbType;
 use std::alloc::Global;
 
-/// What stands on one side of an operator: a constant, or a variable of a type.
+/// What stands on one side of an operator: a literal, a constant, or a variable of a type.
 #[derive(Clone, Copy)]
 enum Operand {
-    Whole(i64),
-    Truth(i64),
+    Number(u64),
+    Code(u64),
     /// The first so many of `abcd`, as a string.
     Text(usize),
+    Whole(i64),
+    Truth(i64),
     Cardinal,
     Integer,
     Boolean,
@@ -24,17 +26,17 @@ enum Operand {
     Chars,
 }
 
+/// An operator, which stands before the right one of two operands where it takes one alone.
 #[derive(Clone, Copy)]
 enum Operator {
     Arithmetic(ArithmeticOperator),
     Compared(Relation),
     Logical(LogicalOperator),
-    /// Before the right one of two operands.
     Signed(Sign),
     Negated,
 }
 
-/// The column and the rule of the least breach, or the host and the number of what the operator makes.
+/// The column and the rule of the least breach, or the host and the number of what an operator makes.
 #[derive(Clone, Copy, PartialEq, Eq)]
 enum Answer {
     Breaks(u32, u16),
@@ -45,22 +47,20 @@ enum Answer {
 type Row = (Operand, Operator, Operand, Answer);
 
 fn checker_of(alloc: Global) -> Result<Checker, Memory> {
-    let head = Head {
-        name: name_of(alloc, b"M")?,
-        transaction: false,
-        params: List::new(alloc),
-        result: None,
-    };
-    let (scope, head) = pair(make_scope(alloc)?, Shared::new(alloc, head))?;
+    let (scope, module) = pair(
+        make_scope(alloc)?,
+        Shared::new(alloc, name_of(alloc, b"M")?),
+    )?;
     Ok(Checker::new(Setting {
         scope,
-        head,
+        module,
+        heading: None,
         in_loop: false,
         has_relations: false,
     }))
 }
 
-/// The place of the left operand is in column 1, of the operator in 3, and of the right operand in 5.
+/// The left operand stands in column 1, the operator in 3, the right operand in 5.
 fn at(col: u32) -> Place {
     Place {
         unit: 0,
@@ -70,23 +70,23 @@ fn at(col: u32) -> Place {
 }
 
 fn chars(alloc: Global) -> Result<DbType, Memory> {
-    let index = DbType::Sub(Boxed::new(alloc, DbType::Char)?, 97, 99);
-    let (element, index) = pair(Boxed::new(alloc, DbType::Char)?, Boxed::new(alloc, index))?;
+    let host = Boxed::new(alloc, DbType::Char)?;
+    let index = Boxed::new(alloc, DbType::Sub(host, 97, 99));
+    let (element, index) = pair(Boxed::new(alloc, DbType::Char)?, index)?;
     Ok(DbType::Arr(index, element))
 }
 
-fn variable(alloc: Global, col: u32, t: DbType) -> Result<Typed, Memory> {
-    let kind = Kind::Of(Shared::new(alloc, t)?);
+fn variable(alloc: Global, col: u32, t: Result<DbType, Memory>) -> Result<Typed, Memory> {
     let facts = Facts {
         place: at(col),
-        kind,
+        kind: Kind::Of(Shared::new(alloc, t?)?),
         number: None,
     };
     let (facts, tree) = pair(facts, Boxed::new(alloc, CoreExpr::Number(at(col), 0)))?;
     Ok(Typed { facts, tree })
 }
 
-fn text_of(
+fn string(
     alloc: Global,
     checker: &mut Checker,
     col: u32,
@@ -96,6 +96,19 @@ fn text_of(
     text(alloc, checker, at(col), &bytes)
 }
 
+fn constant(alloc: Global, col: u32, operand: Operand) -> Result<Typed, Memory> {
+    match operand {
+        Operand::Whole(n) => whole_constant(alloc, at(col), n),
+        Operand::Truth(n) => {
+            ordinal_constant(alloc, Shared::new(alloc, DbType::Bool)?, at(col), n)
+        }
+        Operand::Cardinal => variable(alloc, col, Ok(DbType::Card)),
+        Operand::Integer => variable(alloc, col, Ok(DbType::Int)),
+        Operand::Chars => variable(alloc, col, chars(alloc)),
+        _ => variable(alloc, col, Ok(DbType::Bool)),
+    }
+}
+
 fn operand_at(
     alloc: Global,
     checker: &mut Checker,
@@ -103,16 +116,10 @@ fn operand_at(
     operand: Operand,
 ) -> Result<Option<Typed>, Memory> {
     match operand {
-        Operand::Whole(n) => Ok(Some(whole_constant(alloc, at(col), n)?)),
-        Operand::Truth(n) => {
-            let t = Shared::new(alloc, DbType::Bool)?;
-            Ok(Some(ordinal_constant(alloc, t, at(col), n)?))
-        }
-        Operand::Text(length) => text_of(alloc, checker, col, length),
-        Operand::Cardinal => Ok(Some(variable(alloc, col, DbType::Card)?)),
-        Operand::Integer => Ok(Some(variable(alloc, col, DbType::Int)?)),
-        Operand::Boolean => Ok(Some(variable(alloc, col, DbType::Bool)?)),
-        Operand::Chars => Ok(Some(variable(alloc, col, chars(alloc)?)?)),
+        Operand::Number(n) => number(alloc, checker, at(col), n),
+        Operand::Code(code) => character(alloc, checker, at(col), code),
+        Operand::Text(length) => string(alloc, checker, col, length),
+        _ => Ok(Some(constant(alloc, col, operand)?)),
     }
 }
 
@@ -142,51 +149,43 @@ fn answer_of(checker: &Checker, e: Option<Typed>) -> Answer {
 
 fn answered(
     alloc: Global,
+    checker: &mut Checker,
     left: Operand,
     operator: Operator,
     right: Operand,
 ) -> Result<Answer, Memory> {
-    let mut checker = checker_of(alloc)?;
-    let a = operand_at(alloc, &mut checker, 1, left)?;
-    let (a, b) = pair(a, operand_at(alloc, &mut checker, 5, right))?;
-    let e = made(alloc, &mut checker, operator, a, b)?;
-    Ok(answer_of(&checker, e))
+    let a = operand_at(alloc, checker, 1, left)?;
+    let (a, b) = pair(a, operand_at(alloc, checker, 5, right))?;
+    let e = made(alloc, checker, operator, a, b)?;
+    Ok(answer_of(checker, e))
 }
 
 fn are_answered(alloc: Global, rows: &[Row]) -> Result<bool, Memory> {
     for (left, operator, right, wanted) in rows {
-        if answered(alloc, *left, *operator, *right)? != *wanted {
+        let mut checker = checker_of(alloc)?;
+        if answered(alloc, &mut checker, *left, *operator, *right)? != *wanted {
             return Ok(false);
         }
     }
     Ok(true)
 }
 
-/// What a number is, and a character by its code.
-fn literals(alloc: Global, n: u64, code: u64) -> Result<(Answer, Answer), Memory> {
-    let mut checker = checker_of(alloc)?;
-    let e = number(alloc, &mut checker, at(3), n)?;
-    let one = answer_of(&checker, e);
-    let mut checker = checker_of(alloc)?;
-    let e = character(alloc, &mut checker, at(5), code)?;
-    Ok((one, answer_of(&checker, e)))
+/// Whether a phrase has a test of fit where a value of the type is asked for.
+fn is_tested(alloc: Global, t: &Shared<DbType>, e: Option<Typed>) -> Result<bool, Memory> {
+    match e {
+        Some(Typed { facts, tree }) => {
+            let tree = fitted(alloc, t, &facts, tree)?;
+            Ok(matches!(tree.get(), CoreExpr::Fitted(_, _, _)))
+        }
+        None => Ok(false),
+    }
 }
 
-/// Whether a string of so many characters fits a type, and its tree then has a test of fit, or the type.
-fn text_fits(alloc: Global, length: usize, t: DbType) -> Result<Option<bool>, Memory> {
-    let mut checker = checker_of(alloc)?;
-    let (t, e) = pair(
-        Shared::new(alloc, t)?,
-        text_of(alloc, &mut checker, 1, length),
-    )?;
-    let Some(Typed { facts, tree }) = e else {
-        return Ok(None);
-    };
-    if !fits(t.get(), &facts) {
-        return Ok(None);
-    }
-    let tree = fitted(alloc, &t, &facts, tree)?;
-    Ok(Some(matches!(tree.get(), CoreExpr::Fitted(_, _, _))))
+/// Whether a string of so many characters has a test of fit where a value of the type is asked for.
+fn is_string_tested(alloc: Global, length: usize, t: DbType) -> Result<bool, Memory> {
+    let (t, mut checker) = pair(Shared::new(alloc, t)?, checker_of(alloc))?;
+    let e = string(alloc, &mut checker, 1, length)?;
+    is_tested(alloc, &t, e)
 }
 
 #[test]
@@ -201,7 +200,7 @@ fn operators(rt: HostRuntime) -> Result<(), Memory> {
     let not = Operator::Negated;
     let rows = [
         (
-            Operand::Whole(1),
+            Operand::Number(1),
             plus,
             Operand::Truth(1),
             Answer::Breaks(3, 25),
@@ -227,23 +226,29 @@ fn operators(rt: HostRuntime) -> Result<(), Memory> {
         (
             Operand::Boolean,
             div,
-            Operand::Whole(0),
+            Operand::Number(0),
             Answer::Breaks(3, 25),
         ),
         (
-            Operand::Whole(4_294_967_295),
+            Operand::Number(4_294_967_295),
             plus,
-            Operand::Whole(1),
+            Operand::Number(1),
             Answer::Breaks(3, 15),
+        ),
+        (
+            Operand::Number(4_294_967_296),
+            plus,
+            Operand::Truth(1),
+            Answer::Breaks(1, 13),
         ),
         (
             Operand::Whole(-7),
             div,
-            Operand::Whole(2),
+            Operand::Number(2),
             Answer::Makes(Host::Whole, Some(-4)),
         ),
         (
-            Operand::Whole(2),
+            Operand::Number(2),
             plus,
             Operand::Integer,
             Answer::Makes(Host::Integer, None),
@@ -251,7 +256,7 @@ fn operators(rt: HostRuntime) -> Result<(), Memory> {
         (
             Operand::Truth(1),
             minus,
-            Operand::Whole(4_294_967_295),
+            Operand::Number(4_294_967_295),
             Answer::Breaks(3, 15),
         ),
         (
@@ -281,7 +286,7 @@ fn operators(rt: HostRuntime) -> Result<(), Memory> {
         (
             Operand::Truth(1),
             not,
-            Operand::Whole(1),
+            Operand::Number(1),
             Answer::Breaks(3, 26),
         ),
         (
@@ -293,8 +298,14 @@ fn operators(rt: HostRuntime) -> Result<(), Memory> {
         (
             Operand::Text(1),
             equal,
+            Operand::Code(98),
+            Answer::Makes(Host::Boolean, Some(0)),
+        ),
+        (
             Operand::Text(1),
-            Answer::Makes(Host::Boolean, Some(1)),
+            equal,
+            Operand::Code(256),
+            Answer::Breaks(5, 13),
         ),
         (
             Operand::Text(2),
@@ -317,20 +328,12 @@ fn operators(rt: HostRuntime) -> Result<(), Memory> {
         (
             Operand::Boolean,
             less,
-            Operand::Whole(1),
+            Operand::Number(1),
             Answer::Breaks(3, 28),
         ),
     ];
     assert!(rt; are_answered(alloc, rows.as_slice())?);
-    let (greatest, last) = literals(alloc, 4_294_967_295, 255)?;
-    assert!(rt; greatest == Answer::Makes(Host::Whole, Some(4_294_967_295)));
-    assert!(rt; last == Answer::Makes(Host::Char, Some(255)));
-    let (greater, behind) = literals(alloc, 4_294_967_296, 256)?;
-    assert!(rt; greater == Answer::Breaks(3, 13));
-    assert!(rt; behind == Answer::Breaks(5, 13));
-    assert!(rt; text_fits(alloc, 1, DbType::Char)? == Some(true));
-    assert!(rt; text_fits(alloc, 2, DbType::Char)? == None);
-    assert!(rt; text_fits(alloc, 3, chars(alloc)?)? == Some(false));
-    assert!(rt; text_fits(alloc, 4, chars(alloc)?)? == None);
+    assert!(rt; is_string_tested(alloc, 1, DbType::Char)?);
+    assert!(rt; !is_string_tested(alloc, 3, chars(alloc)?)?);
     Ok(())
 }
