@@ -98,6 +98,6 @@ commits_nothing program input turns database =
     let order : further ≡ enough program + turns = omega arith in
     let less = goes_on program input turns (enough program) further refl in
     let same = (goes_on program input (enough program) turns further order).stays
-        (λ going. cc (ap (λ (outcome : Outcome). outcome.stands) (whole program input), going)) in
+    (λ going. cc (ap (λ (outcome : Outcome). outcome.stands) (whole program input), going)) in
     let all = ap (λ (outcome : Outcome). outcome.events) (same ∙ whole program input) in
     last_front (printed program) (module_meaning program input turns).events less.extends.rest database (sym all ∙ less.extends.is)

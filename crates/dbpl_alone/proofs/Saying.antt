@@ -170,12 +170,16 @@ module _ (text : List ℕ) (work : Work) (program : Program) (the : IsTheModule 
       work.counts_after.say_faults ≡ work.counts_before.say_faults → Answered (running (runs_text text)) work status.Done
   printed_all is fine =
       printing text work status.Done program the (printed program) [] (sym (append-nil (printed program))) is (λ refusal. cc (refusal))
-      (inl (inr (run_of program, (program, the.spelt, refl), record {
-        input = (now work.before).input;
-        told = λ tells. refl;
-        turns = enough program;
-        ends = end_told (now work.before).input;
-      })))
+      (inl (inr (
+        run_of program,
+        (program, the.spelt, refl),
+        record {
+          input = (now work.before).input;
+          told = λ tells. refl;
+          turns = enough program;
+          ends = end_told (now work.before).input;
+        },
+      )))
       (λ s same tells. all_made s same) (inr fine)
 
   pub printed_some : (IsTrue work.tells → (n : ℕ) × (work.after ≡ more work.before (map Said (take n (printed program))))) →

@@ -54,7 +54,7 @@ left_each : (store : Option (List ℕ)) (P : Option (List Bound) → List ℕ �
     P found said
 left_each (Some name) P old new run found said left =
     let holds : P (stands left.0 left.1) said =
-        might_each (λ log pages said. P (stands log pages) said) name old new run left.0 left.1 said left.2 in
+    might_each (λ log pages said. P (stands log pages) said) name old new run left.0 left.1 said left.2 in
     subst (λ (f : Option (List Bound)). P f said) (sym left.3) holds
 left_each None P old new run found said left =
     let holds : P (Some []) (state_at new left.0).said = moment_each (Leaves None P) old new run left.0 left.1 left.2 in

@@ -38,7 +38,7 @@ pub fn sources<S: Shelf>(
 ) -> Result<Vec<Vec<u8>>, Status>
     ensures found { (work : Work) → IsOver S.Shelf shelf.old shelf.new work →
         IfOk result (λ texts.
-            (all_fetched (map (λ file. file.now) files.now)).passes work (map (λ text. text.items) texts.items)) }
+        (all_fetched (map (λ file. file.now) files.now)).passes work (map (λ text. text.items) texts.items)) }
     ensures count { IfOk result (λ texts. length texts.items ≡ length files.now) }
     ensures within { IfOk result (λ texts. All (λ text. length text.items ≤ SOURCE_BYTES) texts.items) }
     ensures err { (work : Work) → IsOver S.Shelf shelf.old shelf.new work →

@@ -192,9 +192,9 @@ module _ (name : List ℕ) (work : Work) (mid : History) (counts_mid : Counts) (
   moments told =
       let same = each_written told HasSame (refl, refl) (λ s others pages. (said told s others, input told s others)) in
       let stage = moments_all (λ (may : EachImage name (now work.before) MayBecomeEmpty) (s : State). LeavesOnlyAt name (IsBeingMade (now work.before).said) s)
-          HasSame work.before work.after same (begun_for told) in
+      HasSame work.before work.after same (begun_for told) in
       let kept = moments_all (λ (why : (IsFree (store_before name work) → ⊥) ⊎ (answer_of result ≡ status.Memory)) (s : State). IsUntouched (now work.before) s)
-          HasSame work.before work.after same (kept_for told) in
+      HasSame work.before work.after same (kept_for told) in
       moments_weaken (λ s. HasStage s × (IsKept s × HasSame s)) (MayCreate name work (answer_of result)) work.before work.after may_create
       (moments_both HasStage (λ s. IsKept s × HasSame s) work.before work.after stage
       (moments_both IsKept HasSame work.before work.after kept same))

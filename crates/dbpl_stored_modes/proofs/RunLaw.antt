@@ -258,16 +258,21 @@ module _ (store : List ℕ) (stored : StoredProgram) (work : Work) (mid : Histor
       })))))
   due (Err errors.SchemaDiffers) e (inl told) =
       let other = run.differs e in
-      subst IsAnswer (sym told) (inl (inl (inl (inr (other.database, (λ tells. reads_there tells other.database (other.stood tells)),
-      inl (inl (refl, other.differs)))))))
+      subst IsAnswer (sym told) (inl (inl (inl (inr (
+        other.database,
+        (λ tells. reads_there tells other.database (other.stood tells)),
+        inl (inl (refl, other.differs)),
+      )))))
   due (Err errors.SchemaDiffers) e (inr told) = inr (inr told)
   due (Err errors.DiskFault) e told =
       subst IsAnswer (sym told) (inr (inl (inl (inl (rose_later _ _ _ disk_later (run.disk_fault e))))))
   due (Err errors.OutFault) e told =
       let over = over_bound e in
-      subst IsAnswer (sym told) (inr (inl (inr (run_of store stored over.database over.bound,
-      passes over.database over.bound over.reads over.binds,
-      inl (subst (λ (n : ℕ). Rose n work.counts_after.say_faults) say_same (run.out_fault e))))))
+      subst IsAnswer (sym told) (inr (inl (inr (
+        run_of store stored over.database over.bound,
+        passes over.database over.bound over.reads over.binds,
+        inl (subst (λ (n : ℕ). Rose n work.counts_after.say_faults) say_same (run.out_fault e)),
+      ))))
   due (Err errors.Memory) e told = inr (inr told)
 
   printed_well : (answer ≡ status.OutFault) ⊎ (work.counts_after.say_faults ≡ work.counts_before.say_faults)
@@ -370,9 +375,9 @@ module _ (store : List ℕ) (stored : StoredProgram) (work : Work) (mid : Histor
   moments : IsTrue work.tells → EachMoment (MayRun (over_store store stored) work answer) work.before work.after
   moments told =
       let tied = moments_all (λ (x : IsAsked) (s : State). Leaves x.asked.store (IsTied x.asked (now work.before)) s) HasSameInput
-          work.before work.after (inputs told) tied_for in
+      work.before work.after (inputs told) tied_for in
       let idle = moments_all (λ (why : RunsNothing (over_store store stored) work ⊎ IsTrue (is_refusal answer)) (s : State). IsUntouched (now work.before) s)
-          HasSameInput work.before work.after (inputs told) (idle_for told) in
+      HasSameInput work.before work.after (inputs told) (idle_for told) in
       moments_weaken (λ s. IsTiedNow s × (IsIdle s × HasSameInput s)) (MayRun (over_store store stored) work answer) work.before work.after may_run
       (moments_both IsTiedNow (λ s. IsIdle s × HasSameInput s) work.before work.after tied
       (moments_both IsIdle HasSameInput work.before work.after idle (inputs told)))
@@ -436,7 +441,7 @@ module _ (store : List ℕ) (stored : StoredProgram) (work : Work) (mid : Histor
       SomeWereMade (run_of store stored database bound) (now work.before) (now work.after)
   some_made told database bound binds stood fine =
       let some = run.at_rest told database bound (stands_here told database bound stood) binds
-          (λ e. fine (subst (λ (r : Result (Unit {0}) StopErr). TellsOfRun stored r answer) e is)) in
+      (λ e. fine (subst (λ (r : Result (Unit {0}) StopErr). TellsOfRun stored r answer) e is)) in
       record {
         made = some.made;
         may = (turns_of stored, (some.rest, prefix told bound some.made some.rest some.prefix));

@@ -102,9 +102,9 @@ after_run store schema program work answer told all ends did =
         let found = found_over store stored work run over in
         let this = run_of store stored found.database found.bound in
         let whole : Leaves run.store (IsWhole run (now work.before) answer (now work.after).input) (now work.after) =
-            (did.end told.world).whole told run (stored, reads, (done, named, over)) ends in
+        (did.end told.world).whole told run (stored, reads, (done, named, over)) ends in
         let also : Leaves (Some store) (IsWhole this (now work.before) answer (now work.after).input) (now work.after) =
-            subst (λ (r : Running). Leaves r.store (IsWhole r (now work.before) answer (now work.after).input) (now work.after)) found.is whole in
+        subst (λ (r : Running). Leaves r.store (IsWhole r (now work.before) answer (now work.after).input) (now work.after)) found.is whole in
         one_database store (now work.after) (λ one. IsWhole this (now work.before) answer (now work.after).input one (now work.after).said)
         (whole_one store this (now work.before) answer (now work.after).input (now work.after).said (meaning_steady stored found.bound)) all also
 

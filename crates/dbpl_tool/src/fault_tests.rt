@@ -236,12 +236,7 @@ const ROWS: &[Row] = &[
 ];
 
 /// A world with this store `s`, of which these calls fail.
-fn world_of(
-    alloc: Global,
-    log: &[u8],
-    pages: usize,
-    fails: &[u64],
-) -> Result<MemoryWorld, Fail> {
+fn world_of(alloc: Global, log: &[u8], pages: usize, fails: &[u64]) -> Result<MemoryWorld, Fail> {
     let zeros = vec![in alloc; 0; pages]?;
     let mut world = MemoryWorld::make(alloc, b"", fails, 40_000)?;
     world.put_store(alloc, "s", log, zeros.as_slice())?;
@@ -250,7 +245,11 @@ fn world_of(
 
 /// A shelf with both files, of which these fetches fail.
 fn shelf(alloc: Global, fetches_fail: &[u64]) -> Result<MemoryShelf, Fail> {
-    shelf_of(alloc, &[(b"d.mod", SCHEMA), (b"p.mod", PROGRAM)], fetches_fail)
+    shelf_of(
+        alloc,
+        &[(b"d.mod", SCHEMA), (b"p.mod", PROGRAM)],
+        fetches_fail,
+    )
 }
 
 #[test]

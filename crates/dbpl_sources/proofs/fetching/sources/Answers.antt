@@ -40,7 +40,7 @@ loop-file-preserved g c = record {
         shelf_faults_after = g.S.Shelf.shelf_faults c.source.new.shelf;
       }) (record { files_are = files ∙ sym c.loop-file.invariant.files; begins = omega arith; ends = omega arith }) in
       let more = one_more named c.args.files.now c.loop-file.file-index none c.loop-file-test.true work _
-          (c.loop-file.invariant.found work files) c.in_ok-text.text.items here in
+      (c.loop-file.invariant.found work files) c.in_ok-text.text.items here in
       rw (c.in-Ok.ensures.items, map-append (λ text. text.items) c.loop-file.texts.items (c.in_ok-text.text ∷ [])) more;
   count =
       let one = length-append c.loop-file.texts.items (c.in_ok-text.text ∷ []) in

@@ -21,10 +21,10 @@ returns g c = λ told.
       second = subst (λ files. Keeps c.args.next.now (record second { files = files }) c.dbpl-second.result) same c.dbpl-second.ensures.answers;
       tied = λ store leaves run over runs.
           let here = runs_over_files c.args.next.now _ (g.S.Shelf.files c.dbpl-first.new.shelf) (g.S.Shelf.shelf_faults c.dbpl-first.new.shelf)
-              (g.S.Shelf.shelf_faults c.dbpl-second.new.shelf) (g.W.World.history c.dbpl-second.new.world) (g.W.World.counts c.dbpl-first.new.world)
-              (g.W.World.counts c.dbpl-second.new.world) run (sym same) runs in
+          (g.S.Shelf.shelf_faults c.dbpl-second.new.shelf) (g.W.World.history c.dbpl-second.new.world) (g.W.World.counts c.dbpl-first.new.world)
+          (g.W.World.counts c.dbpl-second.new.world) run (sym same) runs in
           c.dbpl-second.ensures.headline told_second run here
           (stood_for c.args.next.now second store run told.world over here
-          (leaves_store c.args.words.now first c.dbpl-first.result told_first (g.W.World.reads_an_image c.dbpl-first.new.world told.world) store
+          (leaves_store c.args.words.now first c.dbpl-first.result told_first (g.met.W.World.reads_an_image c.dbpl-first.new.world told.world) store
           c.dbpl-first.ensures.answers leaves));
     }
