@@ -1,3 +1,4 @@
 pub mod Behind
 pub mod Examples
+pub mod Silencing
 pub mod Speaking
