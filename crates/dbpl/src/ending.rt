@@ -2,10 +2,8 @@
 ghost use Rattle.std.specs.Prelude.{◌≡◌, ◌<◌};
 ghost use Rattle.dbpl_base.specs.Statuses.{code_of};
 ghost use Rattle.dbpl_base.specs.declared.status.Status.{Status as Answer};
-ghost use Rattle.dbpl_base.specs.declared.status.Status.TheVariants.{BadWords};
 ghost use Rattle.dbpl_promise.specs.Work.{work_of};
-ghost use Rattle.dbpl_tool.specs.Commands.{Keeps};
-ghost use Rattle.dbpl_words.specs.Asked.{Asked, Asks};
+ghost use Rattle.dbpl_tool.specs.Commands.{Answers};
 
 use dbpl_base::{Name, Steps};
 use dbpl_tool::dbpl;
@@ -24,10 +22,9 @@ pub fn code_after<L: Ledger, W: World, S: Shelf>(
     requires name { blank.name ≡ L.name }
     requires parts { blank.parts ≡ L.parts }
     requires some { 0 < L.parts }
-    // It is the code of a status that the top call answers with, and the call was made once, with these words.
+    // It is the code of the one answer of the top call to these words. Where they ask for nothing, nothing is done.
     ensures { (answer : Answer) × (result ≡ code_of answer)
-        × Keeps words.now (work_of S.Shelf W.World shelf.old shelf.new world.old world.new) answer
-        × (((asked : Asked) → Asks words.now asked → ⊥) → answer ≡ BadWords) }
+        × Answers words.now (work_of S.Shelf W.World shelf.old shelf.new world.old world.new) answer }
 {
     let mut steps = Steps::<L>::new(blank);
     dbpl(alloc, words, shelf, world, &mut steps).code()

@@ -17,7 +17,7 @@ use Rattle.dbpl_promise.specs.Work.{IsTold, Work}
 use Rattle.dbpl_store.specs.Stands.{stands}
 use Rattle.dbpl_stored_modes.proofs.Stages.{found_over, meaning_steady, over_all_kinds, run_of}
 use Rattle.dbpl_stored_modes.specs.CreateCommand.{creates}
-use Rattle.dbpl_stored_modes.specs.Images.{EachImage}
+use Rattle.dbpl_stored_modes.specs.Images.{EachImage, StandsThere}
 use Rattle.dbpl_stored_modes.specs.RunCommand.{runs_over}
 use Rattle.dbpl_tool.specs.Commands.{Keeps, Runs, promise_of}
 use Rattle.dbpl_tool.specs.Next.{LeavesStore}
@@ -55,8 +55,18 @@ one_database name s P one all each log pages log_left pages_left =
     one (stands log pages) (stands (store_of s name).log.now (store_of s name).pages.now) (each log pages log_left pages_left)
     (each (store_of s name).log.now (store_of s name).pages.now reads.log reads.pages)
 
+-- each image of the store stands for one database
+abbrev pub StandsForOne : List ℕ → State → Type 0
+StandsForOne name s = (database : List Bound) × StandsThere name s database
+
+-- so each stands for what a read of it does
+pub as_read : (name : List ℕ) (s : State) → AllReadAnImage s → StandsForOne name s → StandsAsRead name s
+as_read name s all (database, each) log pages log_left pages_left =
+    let reads = reads_there s name all in
+    each log pages log_left pages_left ∙ sym (each (store_of s name).log.now (store_of s name).pages.now reads.log reads.pages)
+
 -- notes leave it so
-behind_notes : (name : List ℕ) (s : State) (noted : List ℕ) → StandsAsRead name s → StandsAsRead name (record s { noted = noted })
+behind_notes : (name : List ℕ) (s : State) (noted : List ℕ) → StandsForOne name s → StandsForOne name (record s { noted = noted })
 behind_notes name s noted stood = stood
 
 -- ---- behind the first command
@@ -87,17 +97,15 @@ whole_one store run old answer left said steady one other first second =
     let same = one_end (run.means old.input) first.turns second.turns answer answer (steady old.input) first.ends second.ends in
     first.has.stored ∙ (ap (λ (outcome : Outcome). Some (last outcome.events run.database)) same ∙ sym second.has.stored)
 
-after_create : (store : List ℕ) (work : Work) → IsTrue work.tells → AllReadAnImage (now work.after) → Answered (creates store) work status.Done →
-    StandsAsRead store (now work.after)
-after_create store work told all did =
-    one_database store (now work.after) (λ found. found ≡ Some []) (λ one other left right. left ∙ sym right) all ((did.end told).made refl)
+after_create : (store : List ℕ) (work : Work) → IsTrue work.tells → Answered (creates store) work status.Done → StandsForOne store (now work.after)
+after_create store work told did = ([], (did.end told).made refl)
 
 after_run : (store schema program : List ℕ) (work : Work) (answer : Status) → IsTold work → AllReadAnImage (now work.after) → TellsOfEnd answer →
-    Answered (running (runs_over store schema program)) work answer → StandsAsRead store (now work.after)
+    Answered (running (runs_over store schema program)) work answer → StandsForOne store (now work.after)
 after_run store schema program work answer told all ends did =
     by_run (came_to store schema program work answer ends did)
   where
-    by_run : (run : Running) × (runs_over store schema program).passes work run → StandsAsRead store (now work.after)
+    by_run : (run : Running) × (runs_over store schema program).passes work run → StandsForOne store (now work.after)
     by_run (run, (stored, reads, (done, named, over))) =
         let found = found_over store stored work run over in
         let this = run_of store stored found.database found.bound in
@@ -105,8 +113,12 @@ after_run store schema program work answer told all ends did =
         (did.end told.world).whole told run (stored, reads, (done, named, over)) ends in
         let also : Leaves (Some store) (IsWhole this (now work.before) answer (now work.after).input) (now work.after) =
         subst (λ (r : Running). Leaves r.store (IsWhole r (now work.before) answer (now work.after).input) (now work.after)) found.is whole in
-        one_database store (now work.after) (λ one. IsWhole this (now work.before) answer (now work.after).input one (now work.after).said)
-        (whole_one store this (now work.before) answer (now work.after).input (now work.after).said (meaning_steady stored found.bound)) all also
+        let reads = reads_there (now work.after) store all in
+        let left = also (store_of (now work.after) store).log.now (store_of (now work.after) store).pages.now reads.log reads.pages in
+        let same = one_database store (now work.after) (λ one. IsWhole this (now work.before) answer (now work.after).input one (now work.after).said)
+        (whole_one store this (now work.before) answer (now work.after).input (now work.after).said (meaning_steady stored found.bound)) all also in
+        (last (this.means (now work.before).input left.turns).events this.database,
+        λ log pages log_left pages_left. same log pages log_left pages_left ∙ left.has.stored)
 
 -- ---- the first command leaves the store so
 
@@ -122,17 +134,16 @@ module _ (words : List (List ℕ)) (work : Work) (answer : Status) (told : IsTol
     here : AllReadAnImage (now between)
     here = read_between (now between) ((now between).noted ++ noted) (subst AllReadAnImage ends_so all)
 
-    later : (store : List ℕ) → StandsAsRead store (now between) → StandsAsRead store (now work.after)
+    later : (store : List ℕ) → StandsForOne store (now between) → StandsForOne store (now work.after)
     later store stood =
-        subst (StandsAsRead store) (sym ends_so) (behind_notes store (now between) ((now between).noted ++ noted) stood)
+        subst (StandsForOne store) (sym ends_so) (behind_notes store (now between) ((now between).noted ++ noted) stood)
 
-  pub leaves_store : (store : List ℕ) → Keeps words work answer → LeavesStore words store answer → StandsAsRead store (now work.after)
+  pub leaves_store : (store : List ℕ) → Keeps words work answer → LeavesStore words store answer → StandsForOne store (now work.after)
   leaves_store store kept (inl created) =
       let did = kept (Create store) created.0 in
       let behind = did.behind told.world in
       later did.between did.noted behind store
       (after_create store (record work { after = did.between; counts_after = did.counts_between }) told.world
-      (here did.between did.noted behind)
       (subst (Answered (creates store) (record work { after = did.between; counts_after = did.counts_between })) created.1 did.did))
   leaves_store store kept (inr (schema, program, asks, ends)) =
       let did = kept (Run store schema program) asks in
