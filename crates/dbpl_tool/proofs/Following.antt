@@ -116,9 +116,10 @@ after_run store schema program work answer told all ends did =
         let reads = reads_there (now work.after) store all in
         let left = also (store_of (now work.after) store).log.now (store_of (now work.after) store).pages.now reads.log reads.pages in
         let same = one_database store (now work.after) (λ one. IsWhole this (now work.before) answer (now work.after).input one (now work.after).said)
-        (whole_one store this (now work.before) answer (now work.after).input (now work.after).said (meaning_steady stored found.bound)) all also in
-        (last (this.means (now work.before).input left.turns).events this.database,
-        λ log pages log_left pages_left. same log pages log_left pages_left ∙ left.has.stored)
+        (whole_one store this (now work.before) answer (now work.after).input (now work.after).said (meaning_steady stored found.bound)) all also in (
+          last (this.means (now work.before).input left.turns).events this.database,
+          λ log pages log_left pages_left. same log pages log_left pages_left ∙ left.has.stored,
+        )
 
 -- ---- the first command leaves the store so
 

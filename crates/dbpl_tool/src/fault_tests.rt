@@ -1,5 +1,5 @@
 // Commands over a store in memory of which calls fail: no call is made again, no fault is passed over, and refusals come in
-// their order. Some of these leave no event, so no clause can tell them.
+// their order. A call that fails and is made again leaves a count and no event, and no clause speaks of that count.
 use crate::tests::{command_over, shelf_of};
 use dbpl_world::{MemoryShelf, MemoryWorld};
 use std::alloc::Global;

@@ -20,20 +20,20 @@ returns g c = λ told.
       counts = g.W.World.counts c.dbpl-first.new.world;
       shelf_faults = g.S.Shelf.shelf_faults c.dbpl-first.new.shelf;
       first = record {
-          keeps = c.dbpl-first.ensures.answers;
-          bad_words = c.dbpl-first.ensures.bad_words;
-          bad_words_only = c.dbpl-first.ensures.bad_words_only;
-          idle = c.dbpl-first.ensures.idle;
-          noted = c.dbpl-first.ensures.noted;
-          counts = c.dbpl-first.ensures.counts;
+        keeps = c.dbpl-first.ensures.answers;
+        bad_words = c.dbpl-first.ensures.bad_words;
+        bad_words_only = c.dbpl-first.ensures.bad_words_only;
+        idle = c.dbpl-first.ensures.idle;
+        noted = c.dbpl-first.ensures.noted;
+        counts = c.dbpl-first.ensures.counts;
       };
       second = subst (λ files. Answers c.args.next.now (record second { files = files }) c.dbpl-second.result) same (record {
-          keeps = c.dbpl-second.ensures.answers;
-          bad_words = c.dbpl-second.ensures.bad_words;
-          bad_words_only = c.dbpl-second.ensures.bad_words_only;
-          idle = c.dbpl-second.ensures.idle;
-          noted = c.dbpl-second.ensures.noted;
-          counts = c.dbpl-second.ensures.counts;
+        keeps = c.dbpl-second.ensures.answers;
+        bad_words = c.dbpl-second.ensures.bad_words;
+        bad_words_only = c.dbpl-second.ensures.bad_words_only;
+        idle = c.dbpl-second.ensures.idle;
+        noted = c.dbpl-second.ensures.noted;
+        counts = c.dbpl-second.ensures.counts;
       });
       stood = λ store leaves. leaves_store c.args.words.now first c.dbpl-first.result told_first all store c.dbpl-first.ensures.answers leaves;
       tied = λ store leaves run over runs.
