@@ -78,7 +78,7 @@ routine place decl = routine_level place decl (out-Decl decl)
 
 -- the name of what is called
 abbrev pub routine_named : {F : Type 0} → (ExprOf F → Judged Typed) → Place → Named F → Judged Decl
-routine_named expr place name = alone expr place (routine place) name name.parts
+routine_named expr place name = alone expr place (routine place) name
 
 -- A call whose name and arguments are judged. S36 and S39 are asked of the name alone, whatever the arguments break.
 abbrev pub call_of : Place → Judged Decl → ℕ → Judged (List Argument) → Judged Typed

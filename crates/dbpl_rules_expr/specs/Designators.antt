@@ -22,7 +22,7 @@ use Rattle.dbpl_symbols.specs.declared.decl.Decl.{Decl, Decl-F, out-Decl}
 use Rattle.dbpl_symbols.specs.declared.decl.Decl.TheOpen as decls
 use Rattle.dbpl_symbols.specs.declared.sort.Sort.{Sort}
 use Rattle.dbpl_symbols.specs.declared.sort.Sort.TheVariants as sorts
-use Rattle.dbpl_tree.specs.Plain.{exprs_in}
+use Rattle.dbpl_tree.specs.Plain.{exprs_in, is_empty}
 use Rattle.dbpl_tree.specs.declared.designator.DesignatorOf.{DesignatorOf}
 use Rattle.dbpl_tree.specs.declared.designator.PartOf.{PartOf}
 use Rattle.dbpl_tree.specs.declared.designator.PartOf.TheVariants as parts
@@ -111,11 +111,10 @@ part_indices expr (parts.Subscripts place es) = each expr (exprs_in es)
 
 -- A name that is to stand alone is what this says of its declaration. With parts behind it, it would be a variable, which is
 -- asked for nowhere here (S12).
-abbrev pub alone :
-    {F A : Type 0} → (ExprOf F → Judged Typed) → Place → (Decl → Judged A) → Named F → List (PartOf F) → Judged A
-alone expr place judge name [] = name.decl >>= judge
-alone expr place judge name others =
-    made (λ found. found.0) (both (name.decl >>= λ decl. breaks 12 place) (each (part_indices expr) others))
+abbrev pub alone : {F A : Type 0} → (ExprOf F → Judged Typed) → Place → (Decl → Judged A) → Named F → Judged A
+alone expr place judge name =
+    if is_empty name.parts then (name.decl >>= judge)
+    else made (λ found. found.0) (both (name.decl >>= λ decl. breaks 12 place) (each (part_indices expr) name.parts))
 
 abbrev pub kind_level : {D E P : Type 0} → Place → Decl-F D E P → Judged DbType
 kind_level place (decls.Kind t) = good t
@@ -127,16 +126,12 @@ kind place decl = kind_level place (out-Decl decl)
 
 -- THE judgement of a name as that of a type
 abbrev pub kind_named : {F : Type 0} → (ExprOf F → Judged Typed) → Place → Named F → Judged DbType
-kind_named expr place name = alone expr place (kind place) name name.parts
+kind_named expr place name = alone expr place (kind place) name
 
 abbrev pub is_kind_or_module_level : {D E P : Type 0} → Decl-F D E P → Bool
 is_kind_or_module_level (decls.Kind t) = true
 is_kind_or_module_level (decls.Unit exports) = true
 is_kind_or_module_level _ = false
-
-abbrev pub is_alone : {F : Type 0} → List (PartOf F) → Bool
-is_alone [] = true
-is_alone (part ∷ others) = false
 
 abbrev pub means_kind_or_module : Option Decl → Bool
 means_kind_or_module None = false
@@ -144,7 +139,7 @@ means_kind_or_module (Some decl) = is_kind_or_module_level (out-Decl decl)
 
 -- the name of a type or a module alone, which breaks no rule where nothing is asked
 abbrev pub is_kind_or_module : {F : Type 0} → Named F → Bool
-is_kind_or_module name = is_alone name.parts && means_kind_or_module name.decl.core
+is_kind_or_module name = is_empty name.parts && means_kind_or_module name.decl.core
 
 -- ---- operands
 

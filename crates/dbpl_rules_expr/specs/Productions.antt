@@ -141,6 +141,6 @@ element_level j _ setting = unbuilt
 abbrev pub aggregate_level : {E F R A C : Type 0} → Judging E F A → Aggregate-F E F R A C → Setting → Judged Typed
 aggregate_level {F = F} j a setting =
     let name : Named F = named_qual setting a.kind in
-    both (alone (value (λ f. j.factor f setting)) (qual_place a.kind) (brace (qual_place a.kind)) name name.parts)
+    both (alone (value (λ f. j.factor f setting)) (qual_place a.kind) (brace (qual_place a.kind)) name)
     (each (λ e. j.element e setting) a.elements) >>= λ found.
     packed (qual_place a.kind) found.0 found.1
