@@ -2,7 +2,7 @@
 use Rattle.std.specs.Prelude.{ℕ, Bool, true, false, not, ◌&&◌, if◌then◌else◌, is_some, List, [], ◌∷◌, length, Option, Some, None}
 use Rattle.std.specs.Option.{option_map_or}
 use Rattle.dbpl_base.specs.declared.place.Place.{Place}
-use Rattle.dbpl_judging.specs.Judgements.{Judged, both, breaks, each, good, made, ◌>>=◌, ◌>>◌}
+use Rattle.dbpl_judging.specs.Judgements.{Judged, both, breaks, good, made, of, ◌>>=◌, ◌>>?◌}
 use Rattle.dbpl_judging.specs.declared.typed.Typed.{Typed}
 use Rattle.dbpl_rules_calls.specs.Arguments.{characters_argument, counted_argument, kind_argument, standard_argument, value_argument, variable_argument}
 use Rattle.dbpl_rules_calls.specs.Asking.{asked_by}
@@ -20,17 +20,17 @@ use Rattle.dbpl_tree.specs.Plain.{is_empty}
 use Rattle.dbpl_tree.specs.declared.expr.ExprOf.{ExprOf}
 use Rattle.dbpl_value.specs.declared.db_type.DbType.{DbType}
 
--- What a phrase is, however its place asks for it: as an operand; and where it is a designator without parentheses, as a
--- variable and as the name of a type, and whether it is the name of a type or a module and nothing else.
+-- What a phrase is, however its place asks for it: as an operand; where it is a designator without parentheses, as a variable
+-- and as the name of a type; and where nothing is asked.
 pub record Given : Type 0 where
   pub value : Judged Typed
   pub variable : Option (Judged Denoted)
   pub kind : Option (Judged DbType)
-  pub is_kind_or_module : Bool
+  pub unasked : Judged (Unit {0})
 
 -- a phrase that is an operand alone
 abbrev pub only_value : Judged Typed → Given
-only_value value = record { value = value; variable = None; kind = None; is_kind_or_module = false }
+only_value value = record { value = value; variable = None; kind = None; unasked = made (λ e. tt) value }
 
 -- the one factor that an expression is, if it is one and nothing else
 abbrev pub only_factor : {F : Type 0} → ExprOf F → Option F
@@ -55,8 +55,7 @@ argument (asks.Standard which) place given = given.value >>= standard_argument w
 argument asks.Counted place given = or_breaks 40 place given.value given.variable >>= counted_argument
 argument asks.Kind place given = or_breaks 40 place given.value given.kind >>= kind_argument place
 argument asks.Characters place given = given.value >>= characters_argument
-argument asks.Nothing place given =
-    if given.is_kind_or_module then good arguments.Nothing else made (λ e. arguments.Nothing) given.value
+argument asks.Nothing place given = made (λ none. arguments.Nothing) given.unasked
 
 -- THE judgement of arguments: each by its place, and past the last place nothing is asked
 abbrev pub arguments_for : {F : Type 0} → (ExprOf F → Given) → List Asked → List (ExprOf F) → Judged (List Argument)
@@ -80,14 +79,13 @@ routine place decl = routine_level place decl (out-Decl decl)
 abbrev pub routine_named : {F : Type 0} → (ExprOf F → Judged Typed) → Place → Named F → Judged Decl
 routine_named expr place name = alone expr place (routine place) name
 
--- A call whose name and arguments are judged. S36 and S39 are asked of the name alone, whatever the arguments break.
-abbrev pub call_of : Place → Judged Decl → ℕ → Judged (List Argument) → Judged Typed
-call_of place callee count arguments =
-    both (callee >>= function_rules place count) arguments >>= λ found. called place found.0 found.1
+-- what a call gives, once it is known what is called: S36 and S39 are asked of that alone, whatever the arguments break
+abbrev pub call_by : {F : Type 0} → (ExprOf F → Given) → Place → List (ExprOf F) → Option Decl → Judged Typed
+call_by given place es callee =
+    both (of (function_rules place (length es)) callee) (arguments_for given (asked_by callee (length es)) es) >>= λ found.
+    called place found.0 found.1
 
 -- THE judgement of a call in an expression, which begins at this place: its name, and what stands in its parentheses
 abbrev pub call :
     {F : Type 0} → (ExprOf F → Given) → (ExprOf F → Judged Typed) → Place → Named F → List (ExprOf F) → Judged Typed
-call given expr place name es =
-    let callee = routine_named expr place name in
-    call_of place callee (length es) (arguments_for given (asked_by callee.core (length es)) es)
+call given expr place name es = routine_named expr place name >>? call_by given place es

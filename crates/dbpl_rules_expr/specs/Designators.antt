@@ -1,5 +1,5 @@
 -- Designators: variables and their parts, and names that stand alone.
-use Rattle.std.specs.Prelude.{ℕ, Bool, true, false, ◌&&◌, if◌then◌else◌, List, [], ◌∷◌, ◌++◌, map, Option, Some, None, codes}
+use Rattle.std.specs.Prelude.{ℕ, Bool, true, false, if◌then◌else◌, List, [], ◌∷◌, ◌++◌, map, Option, Some, None, codes}
 use Rattle.std.specs.Option.{option_map_or}
 use Rattle.std.specs.List.{fold}
 use Rattle.dbpl_base.specs.declared.place.Place.{Place}
@@ -9,12 +9,11 @@ use Rattle.dbpl_core.specs.declared.root.Root.{Root}
 use Rattle.dbpl_core.specs.declared.root.Root.TheVariants as roots
 use Rattle.dbpl_core.specs.declared.step_of.CoreStepOf.{CoreStepOf}
 use Rattle.dbpl_core.specs.declared.step_of.CoreStepOf.TheVariants as steps
-use Rattle.dbpl_judging.specs.Judgements.{Judged, asks, both, breaks, each, good, made, unbuilt, ◌>>=◌, ◌>>◌}
+use Rattle.dbpl_judging.specs.Judgements.{Judged, asks, both, breaks, each, good, made, of, unbuilt, ◌>>=◌, ◌>>?◌, ◌>>◌}
 use Rattle.dbpl_judging.specs.declared.kind.Kind.TheVariants as phrases
-use Rattle.dbpl_judging.specs.declared.setting.Setting.{Setting}
 use Rattle.dbpl_judging.specs.declared.typed.Typed.{Typed}
 use Rattle.dbpl_rules_calls.specs.declared.denoted.Denoted.{Denoted}
-use Rattle.dbpl_rules_expr.specs.Names.{Named, named}
+use Rattle.dbpl_rules_expr.specs.Names.{Named}
 use Rattle.dbpl_rules_expr.specs.Rules.{S32, S33, S34, is_relation}
 use Rattle.dbpl_rules_operators.specs.Fitting.{as_ordinal, index_of}
 use Rattle.dbpl_rules_operators.specs.Literals.{ordinal_constant, text_constant, whole_constant}
@@ -23,11 +22,9 @@ use Rattle.dbpl_symbols.specs.declared.decl.Decl.TheOpen as decls
 use Rattle.dbpl_symbols.specs.declared.sort.Sort.{Sort}
 use Rattle.dbpl_symbols.specs.declared.sort.Sort.TheVariants as sorts
 use Rattle.dbpl_tree.specs.Plain.{exprs_in, is_empty}
-use Rattle.dbpl_tree.specs.declared.designator.DesignatorOf.{DesignatorOf}
 use Rattle.dbpl_tree.specs.declared.designator.PartOf.{PartOf}
 use Rattle.dbpl_tree.specs.declared.designator.PartOf.TheVariants as parts
 use Rattle.dbpl_tree.specs.declared.expr.ExprOf.{ExprOf}
-use Rattle.dbpl_tree.specs.declared.ident.Ident.{Ident}
 use Rattle.dbpl_value.specs.Types.{element_of, range_of}
 use Rattle.dbpl_value.specs.declared.db_type.DbType.{DbType}
 use Rattle.dbpl_value.specs.declared.range.Range.{Range}
@@ -99,9 +96,13 @@ at_part expr before (parts.Field x) = before >>= at_field x.place x.name
 at_part expr before (parts.Subscripts place es) =
     both (before >>= built) (each expr (exprs_in es)) >>= λ found. at_subscripts place es.first.place found.0 found.1
 
+-- what a name with its parts denotes, once it is known what the name means
+abbrev pub denoted_by : {F : Type 0} → (ExprOf F → Judged Typed) → Place → Named F → Option Decl → Judged Denoted
+denoted_by expr place name decl = fold (at_part expr) (of (variable place name.name) decl) name.parts
+
 -- THE judgement of a name, which begins at this place, with the parts behind it, as a variable or a part of one
 abbrev pub denoted : {F : Type 0} → (ExprOf F → Judged Typed) → Place → Named F → Judged Denoted
-denoted expr place name = fold (at_part expr) (name.decl >>= variable place name.name) name.parts
+denoted expr place name = name.decl >>? denoted_by expr place name
 
 -- ---- names that stand alone
 
@@ -128,19 +129,6 @@ kind place decl = kind_level place (out-Decl decl)
 abbrev pub kind_named : {F : Type 0} → (ExprOf F → Judged Typed) → Place → Named F → Judged DbType
 kind_named expr place name = alone expr place (kind place) name
 
-abbrev pub is_kind_or_module_level : {D E P : Type 0} → Decl-F D E P → Bool
-is_kind_or_module_level (decls.Kind t) = true
-is_kind_or_module_level (decls.Unit exports) = true
-is_kind_or_module_level _ = false
-
-abbrev pub means_kind_or_module : Option Decl → Bool
-means_kind_or_module None = false
-means_kind_or_module (Some decl) = is_kind_or_module_level (out-Decl decl)
-
--- the name of a type or a module alone, which breaks no rule where nothing is asked
-abbrev pub is_kind_or_module : {F : Type 0} → Named F → Bool
-is_kind_or_module name = is_empty name.parts && means_kind_or_module name.decl.core
-
 -- ---- operands
 
 abbrev pub constant_level : {D E P : Type 0} → Place → Decl-F D E P → Option Typed
@@ -161,7 +149,29 @@ read denoted = record {
   tree = trees.Read denoted.designator denoted.kind;
 }
 
+-- what it is as an operand: a constant, or the value of what it denotes
+abbrev pub operand_by : {F : Type 0} → (ExprOf F → Judged Typed) → Place → Named F → Option Decl → Judged Typed
+operand_by expr place name decl =
+    option_map_or good (constant_named place name.parts decl) (made read (denoted_by expr place name decl))
+
 -- THE judgement of a name with the parts behind it as an operand: a constant or a variable (S12)
 abbrev pub operand : {F : Type 0} → (ExprOf F → Judged Typed) → Place → Named F → Judged Typed
-operand expr place name =
-    option_map_or good (constant_named place name.parts name.decl.core) (made read (denoted expr place name))
+operand expr place name = name.decl >>? operand_by expr place name
+
+-- ---- names of which nothing is asked
+
+abbrev pub is_kind_or_module_level : {D E P : Type 0} → Decl-F D E P → Bool
+is_kind_or_module_level (decls.Kind t) = true
+is_kind_or_module_level (decls.Unit exports) = true
+is_kind_or_module_level _ = false
+
+-- the name of a type or a module alone
+abbrev pub is_kind_or_module : {F : Type 0} → List (PartOf F) → Option Decl → Bool
+is_kind_or_module [] (Some decl) = is_kind_or_module_level (out-Decl decl)
+is_kind_or_module _ _ = false
+
+-- THE judgement of a name of which nothing is asked: that of a type or a module alone breaks no rule, all else is an operand
+abbrev pub unasked : {F : Type 0} → (ExprOf F → Judged Typed) → Place → Named F → Judged (Unit {0})
+unasked expr place name =
+    name.decl >>? λ decl.
+    if is_kind_or_module name.parts decl then good tt else made (λ e. tt) (operand_by expr place name decl)

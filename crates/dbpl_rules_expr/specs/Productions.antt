@@ -12,7 +12,7 @@ use Rattle.dbpl_judging.specs.declared.setting.Setting.{Setting}
 use Rattle.dbpl_judging.specs.declared.typed.Typed.{Typed}
 use Rattle.dbpl_rules_expr.specs.Aggregates.{brace, packed}
 use Rattle.dbpl_rules_expr.specs.Calls.{Given, call, given_by, only_value}
-use Rattle.dbpl_rules_expr.specs.Designators.{alone, denoted, is_kind_or_module, kind_named, operand}
+use Rattle.dbpl_rules_expr.specs.Designators.{alone, denoted, kind_named, operand, unasked}
 use Rattle.dbpl_rules_expr.specs.Names.{Named, named, named_qual}
 use Rattle.dbpl_rules_operators.specs.Literals.{character, number, text}
 use Rattle.dbpl_rules_operators.specs.Operators.{arithmetic, compared, logical, negated, signed}
@@ -105,7 +105,7 @@ designator factor setting d =
       value = operand (value factor) (designator_place d) name;
       variable = Some (denoted (value factor) (designator_place d) name);
       kind = Some (kind_named (value factor) (designator_place d) name);
-      is_kind_or_module = is_kind_or_module name;
+      unasked = unasked (value factor) (designator_place d) name;
     }
 
 abbrev pub called_or_not : {F : Type 0} → (F → Given) → Setting → DesignatorOf F → Option (ArgumentsOf F) → Given
