@@ -1,8 +1,8 @@
 -- Calls: what stands between their parentheses, place by place.
-use Rattle.std.specs.Prelude.{ℕ, Bool, true, false, not, ◌&&◌, if◌then◌else◌, is_some, List, [], ◌∷◌, length, Option, Some, None}
+use Rattle.std.specs.Prelude.{ℕ, not, ◌&&◌, if◌then◌else◌, is_some, List, length, slice_get, unwrap_or, Option, Some, None}
 use Rattle.std.specs.Option.{option_map_or}
 use Rattle.dbpl_base.specs.declared.place.Place.{Place}
-use Rattle.dbpl_judging.specs.Judgements.{Judged, both, breaks, good, made, of, ◌>>=◌, ◌>>?◌}
+use Rattle.dbpl_judging.specs.Judgements.{Judged, both, breaks, each_at, good, made, of, ◌>>=◌, ◌>>?◌}
 use Rattle.dbpl_judging.specs.declared.typed.Typed.{Typed}
 use Rattle.dbpl_rules_calls.specs.Arguments.{characters_argument, counted_argument, kind_argument, standard_argument, value_argument, variable_argument}
 use Rattle.dbpl_rules_calls.specs.Asking.{asked_by}
@@ -57,13 +57,13 @@ argument asks.Kind place given = or_breaks 40 place given.value given.kind >>= k
 argument asks.Characters place given = given.value >>= characters_argument
 argument asks.Nothing place given = made (λ none. arguments.Nothing) given.unasked
 
--- THE judgement of arguments: each by its place, and past the last place nothing is asked
+-- what is asked of the argument of this number, counted from 0: past the last place nothing
+abbrev pub asked_at : List Asked → ℕ → Asked
+asked_at places number = unwrap_or (slice_get places number) asks.Nothing
+
+-- THE judgement of arguments, each by its place
 abbrev pub arguments_for : {F : Type 0} → (ExprOf F → Given) → List Asked → List (ExprOf F) → Judged (List Argument)
-arguments_for given places [] = good []
-arguments_for given [] (e ∷ es) =
-    made (λ found. found.0 ∷ found.1) (both (argument asks.Nothing e.place (given e)) (arguments_for given [] es))
-arguments_for given (place ∷ places) (e ∷ es) =
-    made (λ found. found.0 ∷ found.1) (both (argument place e.place (given e)) (arguments_for given places es))
+arguments_for given places es = each_at (λ number e. argument (asked_at places number) e.place (given e)) 0 es
 
 abbrev pub routine_level : {D E P : Type 0} → Place → Decl → Decl-F D E P → Judged Decl
 routine_level place decl (decls.Routine owner head) = good decl
