@@ -1,9 +1,9 @@
 -- The rules of designators and aggregates, each by its number.
 use Rattle.std.specs.Prelude.{ℕ, ◌+◌, Bool, true, false, ◌&&◌, ◌||◌, if◌then◌else◌, List, [], ◌∷◌, map, replicate, Option, Some, None}
 use Rattle.dbpl_judging.specs.declared.facts.Facts.{Facts}
-use Rattle.dbpl_judging.specs.declared.typed.Typed.{Typed}
 use Rattle.dbpl_rules_operators.specs.Fitting.{fits, index_of, lies_in, takes}
-use Rattle.dbpl_value.specs.Types.{count_of, element_of, fields_of, is_record, is_same_name}
+use Rattle.dbpl_value.specs.Equality.{each_passes}
+use Rattle.dbpl_value.specs.Types.{count_of, fields_of, is_record, is_same_name}
 use Rattle.dbpl_value.specs.declared.db_type.DbType.{DbType, DbType-F, out-DbType}
 use Rattle.dbpl_value.specs.declared.db_type.DbType.TheOpen as kinds
 use Rattle.dbpl_value.specs.declared.field.Field.{Field}
@@ -54,12 +54,6 @@ part_types_level fields _ = map (λ field. field.kind) fields
 abbrev pub part_types : DbType → List DbType
 part_types t = part_types_level (fields_of t) (out-DbType t)
 
-abbrev pub all_fit : List DbType → List Facts → Bool
-all_fit [] [] = true
-all_fit [] (part ∷ parts) = false
-all_fit (t ∷ ts) [] = false
-all_fit (t ∷ ts) (part ∷ parts) = fits t part && all_fit ts parts
-
 -- S42: An aggregate has one plain element for each part, assignable to it.
 abbrev pub S42 : DbType → List Facts → Bool
-S42 t parts = all_fit (part_types t) parts
+S42 t parts = each_passes (map fits (part_types t)) parts
