@@ -1,5 +1,5 @@
 -- What a name of a phrase means. A module's name and the name behind the dot are one name, which begins at the first.
-use Rattle.std.specs.Prelude.{ℕ, Bool, true, false, List, [], ◌∷◌, Option, Some, None, option_map, option_to_list}
+use Rattle.std.specs.Prelude.{ℕ, List, ◌∷◌, Option, Some, None, option_map, option_to_list}
 use Rattle.dbpl_base.specs.declared.place.Place.{Place}
 use Rattle.dbpl_judging.specs.Judgements.{Judged, breaks, good, silent}
 use Rattle.dbpl_judging.specs.declared.setting.Setting.{Setting}
@@ -19,19 +19,15 @@ pub record Named (F : Type 0) : Type 0 where
   pub name : List ℕ
   pub parts : List (PartOf F)
 
-abbrev pub is_unknown_level : {D E P : Type 0} → Decl-F D E P → Bool
-is_unknown_level decls.Unknown = true
-is_unknown_level _ = false
-
-abbrev pub known : Decl → Bool → Judged Decl
-known decl true = silent
-known decl false = good decl
+abbrev pub known_level : {D E P : Type 0} → Decl → Decl-F D E P → Judged Decl
+known_level decl decls.Unknown = silent
+known_level decl _ = good decl
 
 -- S10: A used name is declared before its use (rule 10). S11: In M.x with a module M, x is declared by M (rule 11). A name whose
 -- declaration was refused breaks neither.
 abbrev pub meant : ℕ → Place → Option Decl → Judged Decl
 meant rule place None = breaks rule place
-meant rule place (Some decl) = known decl (is_unknown_level (out-Decl decl))
+meant rule place (Some decl) = known_level decl (out-Decl decl)
 
 abbrev pub behind_head : {F D P : Type 0} → Ident → List (PartOf F) → Judged Decl → Decl-F D Exports P → Named F
 behind_head head (parts.Field x ∷ others) decl (decls.Unit exports) = record {
