@@ -1,8 +1,8 @@
 -- Arguments: what a judged phrase is where a place of a call asks for it.
-use Rattle.std.specs.Prelude.{◌||◌, Bool, true, false}
+use Rattle.std.specs.Prelude.{Bool, true, false}
 use Rattle.dbpl_base.specs.declared.place.Place.{Place}
 use Rattle.dbpl_core.specs.declared.expr.CoreExpr.{CoreExpr}
-use Rattle.dbpl_judging.specs.Judgements.{Judged, asks, both, good, ◌>>=◌, ◌>>◌}
+use Rattle.dbpl_judging.specs.Judgements.{Judged, asks, both, good, ◌>>◌}
 use Rattle.dbpl_judging.specs.declared.kind.Kind.{Kind}
 use Rattle.dbpl_judging.specs.declared.kind.Kind.TheVariants as phrases
 use Rattle.dbpl_judging.specs.declared.typed.Typed.{Typed}

@@ -1,6 +1,6 @@
 -- What the places between the parentheses of a call ask for.
 use Rattle.std.specs.Prelude.{ℕ, if◌then◌else◌, List, [], ◌∷◌, map, Option, Some, None}
-use Rattle.dbpl_rules_calls.specs.Rules.{S36, is_count_of}
+use Rattle.dbpl_rules_calls.specs.Rules.{is_count_of}
 use Rattle.dbpl_rules_calls.specs.declared.asked.Asked.{Asked}
 use Rattle.dbpl_rules_calls.specs.declared.asked.Asked.TheVariants as asks
 use Rattle.dbpl_symbols.specs.declared.decl.Decl.{Decl, Decl-F, out-Decl}

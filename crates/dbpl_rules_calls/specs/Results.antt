@@ -1,5 +1,5 @@
 -- What a call gives in an expression.
-use Rattle.std.specs.Prelude.{ℕ, Bool, true, false, if◌then◌else◌, is_some, List, [], ◌∷◌, ℤ, pos, Option, Some, None, option_map}
+use Rattle.std.specs.Prelude.{ℕ, Bool, true, false, if◌then◌else◌, List, [], ◌∷◌, ℤ, Option, Some, None}
 use Rattle.std.specs.List.{flat_map}
 use Rattle.std.specs.Option.{option_map_or}
 use Rattle.dbpl_base.specs.declared.place.Place.{Place}
@@ -7,11 +7,9 @@ use Rattle.dbpl_core.specs.declared.argument_of.CoreArgumentOf.{CoreArgumentOf}
 use Rattle.dbpl_core.specs.declared.argument_of.CoreArgumentOf.TheVariants as core
 use Rattle.dbpl_core.specs.declared.expr.CoreExpr.{CoreExpr}
 use Rattle.dbpl_core.specs.declared.expr.CoreExpr.TheVariants as trees
-use Rattle.dbpl_core.specs.declared.standard_function.StandardFunction.{StandardFunction}
 use Rattle.dbpl_core.specs.declared.standard_function.StandardFunction.TheVariants as functions
-use Rattle.dbpl_judging.specs.Judgements.{Judged, asks, both, good, made, silent, unbuilt, ◌>>=◌, ◌>>◌}
+use Rattle.dbpl_judging.specs.Judgements.{Judged, asks, both, good, silent, unbuilt, ◌>>◌}
 use Rattle.dbpl_judging.specs.declared.facts.Facts.{Facts}
-use Rattle.dbpl_judging.specs.declared.kind.Kind.{Kind}
 use Rattle.dbpl_judging.specs.declared.kind.Kind.TheVariants as phrases
 use Rattle.dbpl_judging.specs.declared.typed.Typed.{Typed}
 use Rattle.dbpl_rules_calls.specs.Rules.{S36, S39}

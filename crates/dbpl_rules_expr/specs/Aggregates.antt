@@ -1,10 +1,9 @@
 -- Aggregates: values of record and array types, part by part.
-use Rattle.std.specs.Prelude.{Bool, if◌then◌else◌, List, [], ◌∷◌, map, Option, Some, None}
+use Rattle.std.specs.Prelude.{if◌then◌else◌, List, [], ◌∷◌, map}
 use Rattle.dbpl_base.specs.declared.place.Place.{Place}
 use Rattle.dbpl_core.specs.declared.expr.CoreExpr.{CoreExpr}
 use Rattle.dbpl_core.specs.declared.expr.CoreExpr.TheVariants as trees
-use Rattle.dbpl_judging.specs.Judgements.{Judged, asks, both, breaks, good, unbuilt, ◌>>=◌, ◌>>◌}
-use Rattle.dbpl_judging.specs.declared.kind.Kind.TheVariants as phrases
+use Rattle.dbpl_judging.specs.Judgements.{Judged, asks, breaks, good, unbuilt, ◌>>◌}
 use Rattle.dbpl_judging.specs.declared.typed.Typed.{Typed}
 use Rattle.dbpl_rules_calls.specs.Results.{computed_value}
 use Rattle.dbpl_rules_expr.specs.Rules.{S41, S42, is_relation, part_types}

@@ -1,5 +1,4 @@
 -- THE judgement of expressions: the productions, with the judgement of the factors in them.
-use Rattle.std.specs.Prelude.{List}
 use Rattle.dbpl_judging.specs.Judgements.{Judged}
 use Rattle.dbpl_judging.specs.declared.setting.Setting.{Setting}
 use Rattle.dbpl_judging.specs.declared.typed.Typed.{Typed}

@@ -1,5 +1,5 @@
 -- THE judgements of the productions of an expression, each by what a factor gives.
-use Rattle.std.specs.Prelude.{Bool, List, [], ◌∷◌, pos, Option, Some, None}
+use Rattle.std.specs.Prelude.{Option, Some, None}
 use Rattle.dbpl_base.specs.declared.place.Place.{Place}
 use Rattle.dbpl_core.specs.declared.arithmetic_operator.ArithmeticOperator.TheVariants as arithmetic_operators
 use Rattle.dbpl_core.specs.declared.logical_operator.LogicalOperator.TheVariants as logical_operators
@@ -7,7 +7,7 @@ use Rattle.dbpl_core.specs.declared.relation.Relation.{Relation as CoreRelation}
 use Rattle.dbpl_core.specs.declared.relation.Relation.TheVariants as core_relations
 use Rattle.dbpl_core.specs.declared.sign.Sign.{Sign}
 use Rattle.dbpl_core.specs.declared.sign.Sign.TheVariants as core_signs
-use Rattle.dbpl_judging.specs.Judgements.{Judged, both, each, folded, good, made, unbuilt, ◌>>=◌, ◌>>◌}
+use Rattle.dbpl_judging.specs.Judgements.{Judged, both, each, folded, made, unbuilt, ◌>>=◌}
 use Rattle.dbpl_judging.specs.declared.setting.Setting.{Setting}
 use Rattle.dbpl_judging.specs.declared.typed.Typed.{Typed}
 use Rattle.dbpl_rules_expr.specs.Aggregates.{brace, packed}
