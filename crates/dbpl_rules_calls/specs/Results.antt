@@ -89,13 +89,13 @@ of_value place standard.Ord e =
 of_value place _ e = silent
 
 -- what VAL gives is never a constant
-abbrev pub of_both_arguments : Place → DbType → Typed → Judged Typed
-of_both_arguments place t e = good (computed_value place t (trees.Standard place (functions.Val t) e.tree))
+abbrev pub converted : Place → DbType → Typed → Judged Typed
+converted place t e = good (computed_value place t (trees.Standard place (functions.Val t) e.tree))
 
 abbrev pub standard_result : Place → StandardProcedure → List Argument → Judged Typed
 standard_result place which (arguments.Kind t ∷ []) = of_type place which t
 standard_result place which (arguments.Value e ∷ []) = of_value place which e
-standard_result place which (arguments.Kind t ∷ arguments.Value e ∷ []) = of_both_arguments place t e
+standard_result place which (arguments.Kind t ∷ arguments.Value e ∷ []) = converted place t e
 standard_result place which _ = silent
 
 -- ---- calls
