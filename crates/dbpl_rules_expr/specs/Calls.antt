@@ -86,6 +86,5 @@ call_by given place es callee =
     called place found.0 found.1
 
 -- THE judgement of a call in an expression, which begins at this place: its name, and what stands in its parentheses
-abbrev pub call :
-    {F : Type 0} → (ExprOf F → Given) → (ExprOf F → Judged Typed) → Place → Named F → List (ExprOf F) → Judged Typed
-call given expr place name es = routine_named expr place name >>? call_by given place es
+abbrev pub call : {F : Type 0} → (ExprOf F → Given) → Place → Named F → List (ExprOf F) → Judged Typed
+call given place name es = routine_named (λ e. (given e).value) place name >>? call_by given place es

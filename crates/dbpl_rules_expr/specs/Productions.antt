@@ -111,8 +111,7 @@ designator factor setting d =
 abbrev pub called_or_not : {F : Type 0} → (F → Given) → Setting → DesignatorOf F → Option (ArgumentsOf F) → Given
 called_or_not factor setting d None = designator factor setting d
 called_or_not factor setting d (Some a) =
-    only_value
-    (call (given_by factor (value factor)) (value factor) (designator_place d) (named setting d.head d.parts) (arguments_in a))
+    only_value (call (given_by factor (value factor)) (designator_place d) (named setting d.head d.parts) (arguments_in a))
 
 -- ---- one level of a factor, an aggregate and an element, over what the phrases in it are
 
