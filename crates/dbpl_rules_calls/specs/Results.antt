@@ -1,14 +1,13 @@
 -- What a call gives in an expression.
-use Rattle.std.specs.Prelude.{ℕ, Bool, true, false, if◌then◌else◌, List, [], ◌∷◌, ℤ, Option, Some, None}
+use Rattle.std.specs.Prelude.{ℕ, Bool, true, false, if◌then◌else◌, List, [], ◌∷◌, ℤ, Option, Some, None, option_map}
 use Rattle.std.specs.List.{flat_map}
-use Rattle.std.specs.Option.{option_map_or}
 use Rattle.dbpl_base.specs.declared.place.Place.{Place}
 use Rattle.dbpl_core.specs.declared.argument_of.CoreArgumentOf.{CoreArgumentOf}
 use Rattle.dbpl_core.specs.declared.argument_of.CoreArgumentOf.TheVariants as core
 use Rattle.dbpl_core.specs.declared.expr.CoreExpr.{CoreExpr}
 use Rattle.dbpl_core.specs.declared.expr.CoreExpr.TheVariants as trees
 use Rattle.dbpl_core.specs.declared.standard_function.StandardFunction.TheVariants as functions
-use Rattle.dbpl_judging.specs.Judgements.{Judged, asks, both, good, silent, unbuilt, ◌>>◌}
+use Rattle.dbpl_judging.specs.Judgements.{Judged, asks, both, good, unbuilt, ◌>>◌}
 use Rattle.dbpl_judging.specs.declared.facts.Facts.{Facts}
 use Rattle.dbpl_judging.specs.declared.kind.Kind.TheVariants as phrases
 use Rattle.dbpl_judging.specs.declared.typed.Typed.{Typed}
@@ -41,11 +40,10 @@ computed_value place t tree = record {
   tree = tree;
 }
 
-abbrev pub result_of : Place → List ℕ → Head → List Argument → Option DbType → Judged Typed
-result_of place owner head given None = silent
-result_of place owner head given (Some t) =
-    good
-    (computed_value place t
+abbrev pub result_of : Place → List ℕ → Head → List Argument → Option Typed
+result_of place owner head given =
+    option_map
+    (λ t. computed_value place t
     (trees.Call
     (record {
       place = place;
@@ -53,6 +51,7 @@ result_of place owner head given (Some t) =
       head = head;
       arguments = flat_map core_argument given;
     }) t))
+    head.result
 
 -- ---- standard functions
 
@@ -60,14 +59,14 @@ result_of place owner head given (Some t) =
 abbrev pub host_constant : Place → DbType → ℤ → Typed
 host_constant place t n = numbered (if is_whole (host_of t) then phrases.Whole else phrases.Of (host_type t)) place n
 
-abbrev pub bound_of : Place → DbType → (Range → ℤ) → Judged Typed
-bound_of place t bound = option_map_or (λ range. good (host_constant place t (bound range))) (range_of t) silent
+abbrev pub bound_of : Place → DbType → (Range → ℤ) → Option Typed
+bound_of place t bound = option_map (λ range. host_constant place t (bound range)) (range_of t)
 
 -- MIN and MAX of a type are constants
-abbrev pub of_type : Place → StandardProcedure → DbType → Judged Typed
+abbrev pub of_type : Place → StandardProcedure → DbType → Option Typed
 of_type place standard.Min t = bound_of place t (λ range. range.least)
 of_type place standard.Max t = bound_of place t (λ range. range.greatest)
-of_type place _ t = silent
+of_type place _ t = None
 
 -- ORD of a constant is a whole constant, else a CARDINAL
 abbrev pub order_facts : Place → Option ℤ → Facts
@@ -75,28 +74,29 @@ order_facts place None = record { place = place; kind = phrases.Of types.Card; n
 order_facts place (Some n) = record { place = place; kind = phrases.Whole; number = Some n }
 
 -- CHR of a constant is a constant, and what ABS, ODD and CAP give never is
-abbrev pub of_value : Place → StandardProcedure → Typed → Judged Typed
-of_value place standard.Abs e = good (computed_value place types.Int (trees.Standard place functions.Abs e.tree))
-of_value place standard.Odd e = good (computed_value place types.Bool (trees.Standard place functions.Odd e.tree))
-of_value place standard.Cap e = good (computed_value place types.Char (trees.Standard place functions.Cap e.tree))
+abbrev pub of_value : Place → StandardProcedure → Typed → Option Typed
+of_value place standard.Abs e = Some (computed_value place types.Int (trees.Standard place functions.Abs e.tree))
+of_value place standard.Odd e = Some (computed_value place types.Bool (trees.Standard place functions.Odd e.tree))
+of_value place standard.Cap e = Some (computed_value place types.Char (trees.Standard place functions.Cap e.tree))
 of_value place standard.Chr e =
-    good (record {
+    Some (record {
       facts = record { place = place; kind = phrases.Of types.Char; number = e.facts.number };
       tree = trees.Standard place functions.Chr e.tree;
     })
 of_value place standard.Ord e =
-    good (record { facts = order_facts place e.facts.number; tree = trees.Standard place functions.Ord e.tree })
-of_value place _ e = silent
+    Some (record { facts = order_facts place e.facts.number; tree = trees.Standard place functions.Ord e.tree })
+of_value place _ e = None
 
 -- what VAL gives is never a constant
-abbrev pub converted : Place → DbType → Typed → Judged Typed
-converted place t e = good (computed_value place t (trees.Standard place (functions.Val t) e.tree))
+abbrev pub converted : Place → DbType → Typed → Typed
+converted place t e = computed_value place t (trees.Standard place (functions.Val t) e.tree)
 
-abbrev pub standard_result : Place → StandardProcedure → List Argument → Judged Typed
+-- what a standard function gives; nothing where one that isn't built yet, or none, has these arguments
+abbrev pub standard_result : Place → StandardProcedure → List Argument → Option Typed
 standard_result place which (arguments.Kind t ∷ []) = of_type place which t
 standard_result place which (arguments.Value e ∷ []) = of_value place which e
-standard_result place which (arguments.Kind t ∷ arguments.Value e ∷ []) = converted place t e
-standard_result place which _ = silent
+standard_result place which (arguments.Kind t ∷ arguments.Value e ∷ []) = Some (converted place t e)
+standard_result place which _ = None
 
 -- ---- calls
 
@@ -114,11 +114,11 @@ unfoldable pub function_rules : Place → ℕ → Decl → Judged Decl
 function_rules place count decl =
     both (asks 36 place (S36 decl count)) (both (asks 39 place (S39 decl)) (built_level (out-Decl decl))) >> good decl
 
-abbrev pub result_level : {D E P : Type 0} → Place → Decl-F D E P → List Argument → Judged Typed
-result_level place (decls.Routine owner head) given = result_of place owner head given head.result
+abbrev pub result_level : {D E P : Type 0} → Place → Decl-F D E P → List Argument → Option Typed
+result_level place (decls.Routine owner head) given = result_of place owner head given
 result_level place (decls.Standard which) given = standard_result place which given
-result_level place _ given = silent
+result_level place _ given = None
 
--- THE judgement of a call in an expression, whose name and arguments are judged
+-- THE judgement of a call in an expression, whose name and arguments are judged and break no rule
 unfoldable pub called : Place → Decl → List Argument → Judged Typed
-called place decl given = result_level place (out-Decl decl) given
+called place decl given = record { breaches = []; core = result_level place (out-Decl decl) given }
