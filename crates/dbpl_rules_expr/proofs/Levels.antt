@@ -5,10 +5,10 @@ use Rattle.dbpl_base.specs.declared.place.Place.{Place}
 use Rattle.dbpl_judging.specs.Judgements.{Judged, both, each, made, ◌>>=◌}
 use Rattle.dbpl_judging.specs.declared.setting.Setting.{Setting}
 use Rattle.dbpl_judging.specs.declared.typed.Typed.{Typed}
-use Rattle.dbpl_rules_expr.proofs.Mapped.{alone-with, call-with, denoted-with, each-with, expr-with, given-with, is-alone-with, named-with, named_with, operand-with}
+use Rattle.dbpl_rules_expr.proofs.Mapped.{alone-with, call-with, denoted-with, each-with, expr-with, given-with, named-with, named_with, operand-with, unasked-with}
 use Rattle.dbpl_rules_expr.specs.Aggregates.{brace, packed}
 use Rattle.dbpl_rules_expr.specs.Calls.{Given, call, given_by, only_value}
-use Rattle.dbpl_rules_expr.specs.Designators.{alone, denoted, is_kind_or_module, kind, kind_named, means_kind_or_module, operand}
+use Rattle.dbpl_rules_expr.specs.Designators.{alone, denoted, kind, kind_named, operand, unasked}
 use Rattle.dbpl_rules_expr.specs.Expressions.{judge_aggregate, judge_element, judge_factor, judged, judging}
 use Rattle.dbpl_rules_expr.specs.Names.{Named, named, named_qual}
 use Rattle.dbpl_rules_expr.specs.Productions.{Judging, aggregate_level, called_or_not, designator, element_level, factor_level, given_value, placed, value}
@@ -52,23 +52,21 @@ module _ {F G : Type 0} (h : F → G) (factor : G → Given) where
             ∙ denoted-with h (value factor) (value by) value-with d.head.place found) i);
         kind =
             Some ((ap (kind_named (value factor) d.head.place) name
-            ∙ alone-with h (value factor) (value by) value-with d.head.place (kind d.head.place) found found.parts) i);
-        is_kind_or_module =
-            (ap is_kind_or_module name
-            ∙ (λ j. is-alone-with h found.parts j && means_kind_or_module found.decl.core)) i;
+            ∙ alone-with h (value factor) (value by) value-with d.head.place (kind d.head.place) found) i);
+        unasked =
+            (ap (unasked (value factor) d.head.place) name
+            ∙ unasked-with h (value factor) (value by) value-with d.head.place found) i;
       }
 
   call-by :
       (setting : Setting) (d : DesignatorOf F) (es : List (ExprOf F)) →
-      call (given_by factor (value factor)) (value factor) d.head.place (named setting d.head (map (part_with h) d.parts))
-      (map (expr_with h) es)
-      ≡ call (given_by by (value by)) (value by) d.head.place (named setting d.head d.parts) es
+      call (given_by factor (value factor)) d.head.place (named setting d.head (map (part_with h) d.parts)) (map (expr_with h) es)
+      ≡ call (given_by by (value by)) d.head.place (named setting d.head d.parts) es
   call-by setting d es =
-      ap (λ (name : Named G). call (given_by factor (value factor)) (value factor) d.head.place name (map (expr_with h) es))
+      ap (λ (name : Named G). call (given_by factor (value factor)) d.head.place name (map (expr_with h) es))
       (named-with h setting d.head d.parts)
       ∙ call-with h (given_by factor (value factor)) (given_by by (value by))
-      (given-with h factor (value factor) (value by) value-with) (value factor) (value by) value-with d.head.place
-      (named setting d.head d.parts) es
+      (given-with h factor (value factor) (value by) value-with) d.head.place (named setting d.head d.parts) es
 
   some-called-with :
       (setting : Setting) (d : DesignatorOf F) (place : Place) (es : Option (ExprsOf F)) →
@@ -116,16 +114,13 @@ brace-with :
     ((e : ExprOf F) → judge (expr_with h e) ≡ other e) → (setting : Setting) (place : Place) (head : Ident)
     (second : Option Ident) →
     alone judge place (brace place) (named_qual {F = G} setting (record { first = head; second = second }))
-    (named_qual {F = G} setting (record { first = head; second = second })).parts
     ≡ alone other place (brace place) (named_qual {F = F} setting (record { first = head; second = second }))
-    (named_qual {F = F} setting (record { first = head; second = second })).parts
 brace-with h judge other same setting place head None =
-    ap (λ name. alone judge place (brace place) name name.parts) (named-with h setting head [])
-    ∙ alone-with h judge other same place (brace place) (named setting head []) (named setting head []).parts
+    ap (alone judge place (brace place)) (named-with h setting head [])
+    ∙ alone-with h judge other same place (brace place) (named setting head [])
 brace-with h judge other same setting place head (Some x) =
-    ap (λ name. alone judge place (brace place) name name.parts) (named-with h setting head (parts.Field x ∷ []))
+    ap (alone judge place (brace place)) (named-with h setting head (parts.Field x ∷ []))
     ∙ alone-with h judge other same place (brace place) (named setting head (parts.Field x ∷ []))
-    (named setting head (parts.Field x ∷ [])).parts
 
 aggregate_level-with :
     (x : Aggregate-F Element Factor Range Aggregate Each) →

@@ -1,19 +1,19 @@
 -- The judgement of a phrase with other things in place of its factors: it is the judgement of the phrase by way of them.
-use Rattle.std.proofs.Common.{◌≡◌, ℕ, Bool, true, false, not, ◌&&◌, List, [], ◌∷◌, map, length, Option, Some, None, option_map, refl, ap, ◌∙◌}
+use Rattle.std.proofs.Common.{◌≡◌, ℕ, ◌+◌, Bool, true, false, not, ◌&&◌, List, [], ◌∷◌, map, length, Option, Some, None, option_map, refl, ap, ◌∙◌}
 use Rattle.std.specs.Prelude.{if◌then◌else◌, is_some}
 use Rattle.std.specs.List.{fold}
 use Rattle.std.specs.Option.{option_map_or}
 use lib.ListN.{length-map}
 use Rattle.dbpl_base.specs.declared.place.Place.{Place}
-use Rattle.dbpl_judging.specs.Judgements.{Judged, both, breaks, each, folded, made, ◌>>=◌}
+use Rattle.dbpl_judging.specs.Judgements.{Judged, both, breaks, each, each_at, folded, made, of, ◌>>=◌, ◌>>?◌}
 use Rattle.dbpl_judging.specs.declared.setting.Setting.{Setting}
 use Rattle.dbpl_judging.specs.declared.typed.Typed.{Typed}
 use Rattle.dbpl_rules_calls.specs.Asking.{asked_by}
 use Rattle.dbpl_rules_calls.specs.declared.asked.Asked.{Asked}
-use Rattle.dbpl_rules_calls.specs.declared.asked.Asked.TheVariants as asks
+use Rattle.dbpl_rules_calls.specs.Results.{called, function_rules}
 use Rattle.dbpl_rules_calls.specs.declared.denoted.Denoted.{Denoted}
-use Rattle.dbpl_rules_expr.specs.Calls.{Given, argument, arguments_for, call, call_of, given_by, only_factor, only_value, routine}
-use Rattle.dbpl_rules_expr.specs.Designators.{alone, at_field, at_part, at_subscripts, built, constant_named, denoted, is_alone, is_kind_or_module, kind, kind_named, operand, part_indices, read, variable}
+use Rattle.dbpl_rules_expr.specs.Calls.{Given, argument, arguments_for, asked_at, call, call_by, given_by, only_factor, only_value, routine, routine_named}
+use Rattle.dbpl_rules_expr.specs.Designators.{alone, at_field, at_part, at_subscripts, built, constant_named, denoted, denoted_by, is_kind_or_module, operand, operand_by, part_indices, read, unasked, variable}
 use Rattle.dbpl_rules_expr.specs.Names.{Named, behind_head, from_head, meant, named}
 use Rattle.dbpl_rules_expr.specs.Productions.{added, expr, multiplied, relation_of, signed_term, simple, term, with_right}
 use Rattle.dbpl_rules_operators.specs.Operators.{compared}
@@ -51,6 +51,17 @@ pub each-with :
 each-with g judge other same [] = refl
 each-with g judge other same (x ∷ xs) =
     λ i. made (λ found. found.0 ∷ found.1) (both (same x i) (each-with g judge other same xs i))
+
+each_at-with :
+    {P Q B : Type 0} (g : P → Q) (judge : ℕ → Q → Judged B) (other : ℕ → P → Judged B) →
+    ((n : ℕ) (x : P) → judge n (g x) ≡ other n x) → (n : ℕ) (xs : List P) → each_at judge n (map g xs) ≡ each_at other n xs
+each_at-with g judge other same n [] = refl
+each_at-with g judge other same n (x ∷ xs) =
+    λ i. made (λ found. found.0 ∷ found.1) (both (same n x i) (each_at-with g judge other same (n + 1) xs i))
+
+empty-map : {A B : Type 0} (f : A → B) (xs : List A) → is_empty (map f xs) ≡ is_empty xs
+empty-map f [] = refl
+empty-map f (x ∷ xs) = refl
 
 -- ---- expressions
 
@@ -126,22 +137,27 @@ module _
   parts-with (part ∷ taken) before behind is =
       parts-with taken (at_part judge before (part_with h part)) (at_part other behind part) (part-with before behind is part)
 
+  denoted_by-with :
+      (place : Place) (name : Named F) (decl : Option Decl) →
+      denoted_by judge place (named_with h name) decl ≡ denoted_by other place name decl
+  denoted_by-with place name decl =
+      parts-with name.parts (of (variable place name.name) decl) (of (variable place name.name) decl) refl
+
   pub denoted-with : (place : Place) (name : Named F) → denoted judge place (named_with h name) ≡ denoted other place name
-  denoted-with place name =
-      parts-with name.parts (name.decl >>= variable place name.name) (name.decl >>= variable place name.name) refl
+  denoted-with place name = λ i. name.decl >>? λ decl. denoted_by-with place name decl i
 
   indices-with : (part : PartOf F) → part_indices judge (part_with h part) ≡ part_indices other part
   indices-with (parts.Field x) = refl
   indices-with (parts.Subscripts place es) = each-with (expr_with h) judge other same (exprs_in es)
 
   pub alone-with :
-      {A : Type 0} (place : Place) (asks_of : Decl → Judged A) (name : Named F) (taken : List (PartOf F)) →
-      alone judge place asks_of (named_with h name) (map (part_with h) taken) ≡ alone other place asks_of name taken
-  alone-with place asks_of name [] = refl
-  alone-with {A = A} place asks_of name (part ∷ taken) =
+      {A : Type 0} (place : Place) (asks_of : Decl → Judged A) (name : Named F) →
+      alone judge place asks_of (named_with h name) ≡ alone other place asks_of name
+  alone-with {A = A} place asks_of name =
       let broken : Judged A = name.decl >>= λ decl. breaks 12 place in
-      λ i. made (λ found. found.0)
-      (both broken (each-with (part_with h) (part_indices judge) (part_indices other) indices-with (part ∷ taken) i))
+      λ i. if empty-map (part_with h) name.parts i then (name.decl >>= asks_of)
+      else made (λ found. found.0)
+      (both broken (each-with (part_with h) (part_indices judge) (part_indices other) indices-with name.parts i))
 
   constant-with :
       (place : Place) (taken : List (PartOf F)) (decl : Option Decl) →
@@ -151,20 +167,30 @@ module _
   constant-with place (part ∷ taken) None = refl
   constant-with place (part ∷ taken) (Some decl) = refl
 
-  pub operand-with : (place : Place) (name : Named F) → operand judge place (named_with h name) ≡ operand other place name
-  operand-with place name =
-      λ i. option_map_or (λ e. record { breaches = []; core = Some e }) (constant-with place name.parts name.decl.core i)
-      (made read (denoted-with place name i))
+  operand_by-with :
+      (place : Place) (name : Named F) (decl : Option Decl) →
+      operand_by judge place (named_with h name) decl ≡ operand_by other place name decl
+  operand_by-with place name decl =
+      λ i. option_map_or (λ e. record { breaches = []; core = Some e }) (constant-with place name.parts decl i)
+      (made read (denoted_by-with place name decl i))
 
-pub is-alone-with : {F G : Type 0} (h : F → G) (taken : List (PartOf F)) → is_alone (map (part_with h) taken) ≡ is_alone taken
-is-alone-with h [] = refl
-is-alone-with h (part ∷ taken) = refl
+  pub operand-with : (place : Place) (name : Named F) → operand judge place (named_with h name) ≡ operand other place name
+  operand-with place name = λ i. name.decl >>? λ decl. operand_by-with place name decl i
+
+  kind_or_module-with :
+      (taken : List (PartOf F)) (decl : Option Decl) →
+      is_kind_or_module (map (part_with h) taken) decl ≡ is_kind_or_module taken decl
+  kind_or_module-with [] None = refl
+  kind_or_module-with [] (Some decl) = refl
+  kind_or_module-with (part ∷ taken) None = refl
+  kind_or_module-with (part ∷ taken) (Some decl) = refl
+
+  pub unasked-with : (place : Place) (name : Named F) → unasked judge place (named_with h name) ≡ unasked other place name
+  unasked-with place name =
+      λ i. name.decl >>? λ decl. if kind_or_module-with name.parts decl i then record { breaches = []; core = Some tt }
+      else made (λ e. tt) (operand_by-with place name decl i)
 
 -- ---- arguments
-
-empty-map : {A B : Type 0} (f : A → B) (xs : List A) → is_empty (map f xs) ≡ is_empty xs
-empty-map f [] = refl
-empty-map f (x ∷ xs) = refl
 
 some-map : {A B : Type 0} (f : A → B) (x : Option A) → is_some (option_map f x) ≡ is_some x
 some-map f None = refl
@@ -204,22 +230,24 @@ module _
   arguments-with :
       (places : List Asked) (es : List (ExprOf F)) →
       arguments_for given places (map (expr_with h) es) ≡ arguments_for by places es
-  arguments-with [] [] = refl
-  arguments-with (place ∷ places) [] = refl
-  arguments-with [] (e ∷ es) =
-      λ i. made (λ found. found.0 ∷ found.1) (both (argument asks.Nothing e.place (same e i)) (arguments-with [] es i))
-  arguments-with (place ∷ places) (e ∷ es) =
-      λ i. made (λ found. found.0 ∷ found.1) (both (argument place e.place (same e i)) (arguments-with places es i))
+  arguments-with places es =
+      each_at-with (expr_with h) (λ n (e : ExprOf G). argument (asked_at places n) e.place (given e))
+      (λ n (e : ExprOf F). argument (asked_at places n) e.place (by e)) (λ n e i. argument (asked_at places n) e.place (same e i)) 0 es
+
+  call_by-with :
+      (place : Place) (es : List (ExprOf F)) (callee : Option Decl) →
+      call_by given place (map (expr_with h) es) callee ≡ call_by by place es callee
+  call_by-with place es callee =
+      (λ i. both (of (function_rules place (length-map es (expr_with h) i)) callee)
+      (arguments_for given (asked_by callee (length-map es (expr_with h) i)) (map (expr_with h) es)) >>= λ found.
+      called place found.0 found.1)
+      ∙ (λ i. both (of (function_rules place (length es)) callee) (arguments-with (asked_by callee (length es)) es i) >>= λ found.
+      called place found.0 found.1)
 
   pub call-with :
-      (judge : ExprOf G → Judged Typed) (other : ExprOf F → Judged Typed) →
-      ((e : ExprOf F) → judge (expr_with h e) ≡ other e) → (place : Place) (name : Named F) (es : List (ExprOf F)) →
-      call given judge place (named_with h name) (map (expr_with h) es) ≡ call by other place name es
-  call-with judge other alike place name es =
-      let callee : alone judge place (routine place) (named_with h name) (map (part_with h) name.parts)
-      ≡ alone other place (routine place) name name.parts =
-      alone-with h judge other alike place (routine place) name name.parts in
-      (λ i. call_of place (callee i) (length-map es (expr_with h) i)
-      (arguments_for given (asked_by (callee i).core (length-map es (expr_with h) i)) (map (expr_with h) es)))
-      ∙ (λ i. call_of place (alone other place (routine place) name name.parts) (length es)
-      (arguments-with (asked_by (alone other place (routine place) name name.parts).core (length es)) es i))
+      (place : Place) (name : Named F) (es : List (ExprOf F)) →
+      call given place (named_with h name) (map (expr_with h) es) ≡ call by place name es
+  call-with place name es =
+      (λ i. alone-with h (λ e. (given e).value) (λ e. (by e).value) (λ e j. (same e j).value) place (routine place) name i
+      >>? call_by given place (map (expr_with h) es))
+      ∙ (λ i. routine_named (λ e. (by e).value) place name >>? λ callee. call_by-with place es callee i)
