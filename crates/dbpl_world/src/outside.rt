@@ -29,6 +29,7 @@ pub trait World {
         ensures memory { result ≡ Err MountErr.Memory → counts self.new ≡ counts self.old }
 
         ensures counts { OnlyDiskFaults (counts self.old) (counts self.new) }
+        ensures fine { OnOk result ((counts self.new).disk_faults ≡ (counts self.old).disk_faults) }
         ensures cause { result ≡ Err MountErr.Failed → Rose (counts self.old).disk_faults (counts self.new).disk_faults };
 
     /// Takes the next bytes of the input.
@@ -84,6 +85,7 @@ pub trait World {
         ensures unchanged { IsTrue tells → history self.new ≡ history self.old }
         ensures same { mounted self.new ≡ mounted self.old }
         ensures counts { OnlyDiskFaults (counts self.old) (counts self.new) }
+        ensures fine { OnOk result ((counts self.new).disk_faults ≡ (counts self.old).disk_faults) }
         ensures cause { OnErr result (Rose (counts self.old).disk_faults (counts self.new).disk_faults) };
 
     /// Reads the bytes of the part from that place on, as many as there are up to the room.
@@ -96,6 +98,7 @@ pub trait World {
         ensures unchanged { IsTrue tells → history self.new ≡ history self.old }
         ensures same { mounted self.new ≡ mounted self.old }
         ensures counts { OnlyReads part (counts self.old) (counts self.new) }
+        ensures fine { OnOk result ((counts self.new).disk_faults ≡ (counts self.old).disk_faults) }
         ensures cause { OnErr result (Rose (counts self.old).disk_faults (counts self.new).disk_faults) };
 
     /// Writes all the bytes at that place. A write past the end extends the part, with zeros in a gap.
@@ -111,6 +114,7 @@ pub trait World {
 
         ensures same { mounted self.new ≡ mounted self.old }
         ensures counts { OnlyDiskFaults (counts self.old) (counts self.new) }
+        ensures fine { OnOk result ((counts self.new).disk_faults ≡ (counts self.old).disk_faults) }
         ensures cause { OnErr result (Rose (counts self.old).disk_faults (counts self.new).disk_faults) };
 
     /// After it a stop leaves of the part what a read gives. One that failed changes nothing.
@@ -121,6 +125,7 @@ pub trait World {
 
         ensures same { mounted self.new ≡ mounted self.old }
         ensures counts { OnlyDiskFaults (counts self.old) (counts self.new) }
+        ensures fine { OnOk result ((counts self.new).disk_faults ≡ (counts self.old).disk_faults) }
         ensures cause { OnErr result (Rose (counts self.old).disk_faults (counts self.new).disk_faults) };
 
     /// The mounted store is the one that was mounted last.

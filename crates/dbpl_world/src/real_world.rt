@@ -63,6 +63,7 @@ impl<R: Files<File = File>, I: Read, O: Write, E: Write> World for RealWorld<R, 
         ensures err { OnErr result (⟦<RealWorld<R, I, O, E> as World>⟧.mounted self.new ≡ ⟦<RealWorld<R, I, O, E> as World>⟧.mounted self.old) }
         ensures memory { result ≡ Err MountErr.Memory → self.new.counts ≡ self.old.counts }
         ensures counts { OnlyDiskFaults self.old.counts self.new.counts }
+        ensures fine { OnOk result (self.new.counts.disk_faults ≡ self.old.counts.disk_faults) }
         ensures cause { result ≡ Err MountErr.Failed → Rose self.old.counts.disk_faults self.new.counts.disk_faults }
     {
         let _ = self.output.write_out();
@@ -167,6 +168,7 @@ impl<R: Files<File = File>, I: Read, O: Write, E: Write> World for RealWorld<R, 
         ensures end { OnOk result (at + length bytes.now < 2 ^ 63) }
         ensures same { ⟦<RealWorld<R, I, O, E> as World>⟧.mounted self.new ≡ ⟦<RealWorld<R, I, O, E> as World>⟧.mounted self.old }
         ensures counts { OnlyDiskFaults self.old.counts self.new.counts }
+        ensures fine { OnOk result (self.new.counts.disk_faults ≡ self.old.counts.disk_faults) }
         ensures cause { OnErr result (Rose self.old.counts.disk_faults self.new.counts.disk_faults) }
     {
         let _ = self.output.write_out();
@@ -182,6 +184,7 @@ impl<R: Files<File = File>, I: Read, O: Write, E: Write> World for RealWorld<R, 
         ensures none { kept_in self.new.output ≡ [] }
         ensures same { ⟦<RealWorld<R, I, O, E> as World>⟧.mounted self.new ≡ ⟦<RealWorld<R, I, O, E> as World>⟧.mounted self.old }
         ensures counts { OnlyDiskFaults self.old.counts self.new.counts }
+        ensures fine { OnOk result (self.new.counts.disk_faults ≡ self.old.counts.disk_faults) }
         ensures cause { OnErr result (Rose self.old.counts.disk_faults self.new.counts.disk_faults) }
     {
         let _ = self.output.write_out();

@@ -25,6 +25,7 @@ pub trait Shelf {
         ensures within { result ≡ Ok true → length into.new.items ≤ limit }
         ensures kept { result ≢ Ok true → into.new.items ≡ into.old.items }
         ensures files { files self.new ≡ files self.old }
+        ensures fine { result ≢ Err ShelfErr.Failed → shelf_faults self.new ≡ shelf_faults self.old }
         ensures later { shelf_faults self.old ≤ shelf_faults self.new }
         ensures cause { result ≡ Err ShelfErr.Failed → Rose (shelf_faults self.old) (shelf_faults self.new) };
 }
