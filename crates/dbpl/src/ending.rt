@@ -3,7 +3,7 @@ ghost use Rattle.std.specs.Prelude.{◌≡◌, ◌<◌};
 ghost use Rattle.dbpl_base.specs.Statuses.{code_of};
 ghost use Rattle.dbpl_base.specs.declared.status.Status.{Status as Answer};
 ghost use Rattle.dbpl_promise.specs.Work.{work_of};
-ghost use Rattle.dbpl_tool.specs.Commands.{Answers};
+ghost use Rattle.dbpl_tool.specs.Commands.{AnswersWords};
 
 use dbpl_base::{Name, Steps};
 use dbpl_tool::dbpl;
@@ -24,7 +24,7 @@ pub fn code_after<L: Ledger, W: World, S: Shelf>(
     requires some { 0 < L.parts }
     // It is the code of the one answer of the top call to these words. Where they ask for nothing, nothing is done.
     ensures { (answer : Answer) × (result ≡ code_of answer)
-        × Answers words.now (work_of S.Shelf W.World shelf.old shelf.new world.old world.new) answer }
+        × AnswersWords words.now (work_of S.Shelf W.World shelf.old shelf.new world.old world.new) answer }
 {
     let mut steps = Steps::<L>::new(blank);
     dbpl(alloc, words, shelf, world, &mut steps).code()

@@ -2,7 +2,7 @@
 //! a tree that costs its proof much. So no function of the rules owns a tree where it leaves by a `?` or for want of a part.
 ghost use Rattle.std.specs.Prelude.{◌≡◌, Err, IfErr, IfOk, IsOkAnd, None, Ok};
 ghost use Rattle.dbpl_judging.specs.Judgements.{added, paired};
-ghost use Rattle.dbpl_judging.specs.Parts.{with_part};
+ghost use Rattle.dbpl_judging.specs.Parts.{with_found};
 
 use dbpl_base::{Boxed, List, Memory};
 use std::alloc::Global;
@@ -30,7 +30,7 @@ pub fn kept<A: Drop, B: Drop>(
     part: A,
     found: Result<Option<B>, Memory>,
 ) -> Result<Option<(A, B)>, Memory>
-    ensures { result ≡ with_part part found }
+    ensures { result ≡ with_found part found }
 {
     match found {
         Ok(Some(found)) => Ok(Some((part, found))),

@@ -38,7 +38,7 @@ use Rattle.dbpl_meaning.proofs.Trees.{one-call, one-in_out}
 use Rattle.dbpl_meaning.specs.Declared.{global_reference, started, started_globals}
 use Rattle.dbpl_meaning.specs.InOut.{characters_of}
 use Rattle.dbpl_meaning.specs.Expressions.{Calls, argument, characters, led_to, value_of}
-use Rattle.dbpl_meaning.specs.Meaning.{Ended, Going, Outcome, Trapped, begun, calls_at, limit, meaning, named_does, outcome_of, runs, without_value}
+use Rattle.dbpl_meaning.specs.Meaning.{Ended, Going, ProgramOutcome, Trapped, begun, calls_at, limit, meaning, named_does, outcome_of, runs, without_value}
 use Rattle.dbpl_meaning.specs.State.{Doing, Done, State, Stops}
 use Rattle.dbpl_meaning.specs.Statements.{carried_host, condition, does, is_constant_level, number_in_host, number_of_case, of, round_with, row}
 use Rattle.dbpl_meaning.specs.Numbers.{in_host, is_related, wide}
@@ -68,7 +68,7 @@ abbrev pub program_of : List Variable → List Routine → List Statement → Pr
 program_of globals routines body = record { units = unit_of globals routines body ∷ []; order = 0 ∷ [] }
 
 -- what a program comes to whose one body does this
-unfoldable pub comes_to : Program → Doing (Unit {0}) → List ℕ → ℕ → Outcome
+unfoldable pub comes_to : Program → Doing (Unit {0}) → List ℕ → ℕ → ProgramOutcome
 comes_to program doing input turns =
     outcome_of
     ((turn (in_frame [] (up_to_return doing >>= (λ leaving. without_value leaving))) >>= (λ _. nothing))

@@ -5,13 +5,13 @@ use Rattle.dbpl_core.specs.declared.program.Program.{Program}
 use Rattle.dbpl_meaning.proofs.Goes.{Goes, goes-here}
 use Rattle.dbpl_meaning.proofs.Steady.{Follows}
 use Rattle.dbpl_meaning.proofs.Trees.{steady_bodies}
-use Rattle.dbpl_meaning.specs.Meaning.{Ended, Going, Outcome, bodies, begun, meaning, outcome_at, outcome_of, runs, standing}
+use Rattle.dbpl_meaning.specs.Meaning.{Ended, Going, ProgramOutcome, bodies, begun, meaning, outcome_at, outcome_of, runs, standing}
 use Rattle.dbpl_meaning.specs.State as phrase
 use Rattle.dbpl_meaning.specs.State.{Doing, Done, Ran, State, Stop, Stops, state_in}
 use Rattle.dbpl_value.specs.declared.bound.Bound.{Bound}
 
 -- An outcome goes on to another; and where it is no longer going, it is the other.
-pub record GoesOn (less further : Outcome) : Type 0 where
+pub record GoesOn (less further : ProgramOutcome) : Type 0 where
   pub rest : List Event
   pub events : further.events ≡ less.events ++ rest
   pub taken : List ℕ
@@ -38,7 +38,7 @@ further-state (Stops why further) state goes = record {
   stays = λ h. absurd (h refl);
 }
 
-same-outcome : (outcome : Outcome) (state : State) → outcome.events ≡ state.store.events → outcome.input ≡ state.store.input →
+same-outcome : (outcome : ProgramOutcome) (state : State) → outcome.events ≡ state.store.events → outcome.input ≡ state.store.input →
     outcome.work ≡ state.work → GoesOn outcome outcome
 same-outcome outcome state events input work =
     let here = goes-here state in

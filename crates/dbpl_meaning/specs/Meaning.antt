@@ -104,14 +104,14 @@ leaves (Stops (phrase.Returning v) state) = true
 leaves ran = false
 
 -- How a run stands.
-pub data Standing : Type 0 where
-  Going : Standing
-  Ended : Standing
-  Trapped : Trap → Standing
+pub data ProgramStanding : Type 0 where
+  Going : ProgramStanding
+  Ended : ProgramStanding
+  Trapped : Trap → ProgramStanding
   -- what no accepted program comes to
-  Wrong : Standing
+  Wrong : ProgramStanding
 
-abbrev pub standing : Stop → Standing
+abbrev pub standing : Stop → ProgramStanding
 standing phrase.Going = Going
 standing phrase.Ended = Ended
 standing (phrase.Trapped trap) = Trapped trap
@@ -120,13 +120,13 @@ standing (phrase.Returning v) = Wrong
 standing phrase.Wrong = Wrong
 
 -- What a run comes to: its events, how it stands, the input that is left, and the work.
-pub record Outcome : Type 0 where
+pub record ProgramOutcome : Type 0 where
   pub events : List Event
-  pub stands : Standing
+  pub stands : ProgramStanding
   pub input : List ℕ
   pub work : ℕ
 
-abbrev pub outcome_at : Standing → State → Outcome
+abbrev pub outcome_at : ProgramStanding → State → ProgramOutcome
 outcome_at stands state = record {
   events = state.store.events;
   stands = stands;
@@ -134,10 +134,10 @@ outcome_at stands state = record {
   work = state.work;
 }
 
-abbrev pub outcome_of : Ran (Unit {0}) → Outcome
+abbrev pub outcome_of : Ran (Unit {0}) → ProgramOutcome
 outcome_of (Done done state) = outcome_at Ended state
 outcome_of (Stops why state) = outcome_at (standing why) state
 
 -- THE meaning: what a program comes to over this database and this input, a list of bytes, within so many turns
-unfoldable pub meaning : Program → List Bound → List ℕ → ℕ → Outcome
+unfoldable pub meaning : Program → List Bound → List ℕ → ℕ → ProgramOutcome
 meaning program database input turns = outcome_of (runs program database input turns)

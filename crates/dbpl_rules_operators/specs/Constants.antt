@@ -12,13 +12,7 @@ use Rattle.dbpl_core.specs.declared.sign.Sign.{Sign}
 use Rattle.dbpl_core.specs.declared.sign.Sign.TheVariants as sign
 use Rattle.dbpl_value.specs.declared.range.Range.{Range}
 
--- the numbers of INTEGER, of CARDINAL, and of whole constants, which are of one or the other
-abbrev pub integers : Range
-integers = record { least = negsuc 2147483647; greatest = pos 2147483647 }
-
-abbrev pub cardinals : Range
-cardinals = record { least = pos 0; greatest = pos 4294967295 }
-
+-- the numbers of whole constants: those of INTEGER and of CARDINAL
 abbrev pub whole_constants : Range
 whole_constants = record { least = negsuc 2147483647; greatest = pos 4294967295 }
 

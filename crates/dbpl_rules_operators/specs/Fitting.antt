@@ -30,10 +30,10 @@ takes_text t length =
 
 -- THE phrases that have the type's host or are of the type itself: a whole constant has every whole host, and a string is
 -- of each array that takes it
-abbrev pub takes : DbType → Kind → Bool
-takes t phrases.Whole = is_whole (host_of t)
-takes t (phrases.Text length first) = takes_text t length
-takes t (phrases.Of other) = has_one_host t other
+abbrev pub takes_kind : DbType → Kind → Bool
+takes_kind t phrases.Whole = is_whole (host_of t)
+takes_kind t (phrases.Text length first) = takes_text t length
+takes_kind t (phrases.Of other) = has_one_host t other
 
 -- a constant lies in the type, where that is ordinal
 abbrev pub lies_in : DbType → Option ℤ → Bool
@@ -43,7 +43,7 @@ lies_in t (Some n) = option_map_or (λ range. is_in range n) (range_of t) true
 -- THE phrases that are assignable to a type: those that it takes, and each whole one where it is whole. An ordinal
 -- constant must lie in it.
 abbrev pub fits : DbType → Facts → Bool
-fits t facts = (takes t facts.kind || (is_whole (host facts.kind) && is_whole (host_of t))) && lies_in t facts.number
+fits t facts = (takes_kind t facts.kind || (is_whole (host facts.kind) && is_whole (host_of t))) && lies_in t facts.number
 
 -- ---- trees
 
@@ -63,9 +63,9 @@ array_level t tree _ = tree
 abbrev pub as_array : DbType → CoreExpr → CoreExpr
 as_array t tree = array_level t tree (out-CoreExpr tree)
 
--- a phrase that the type takes
-abbrev pub taken : DbType → Typed → CoreExpr
-taken t e = if is_ordinal t then as_ordinal e else as_array t e.tree
+-- a phrase that the type takes, as one of the type
+abbrev pub as_type : DbType → Typed → CoreExpr
+as_type t e = if is_ordinal t then as_ordinal e else as_array t e.tree
 
 -- THE tree of a phrase that fits a type: where that is ordinal, a test of fit at the phrase's first token
 abbrev pub fitted : DbType → Typed → CoreExpr

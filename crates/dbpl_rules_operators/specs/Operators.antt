@@ -17,7 +17,7 @@ use Rattle.dbpl_judging.specs.declared.kind.Kind.{Kind}
 use Rattle.dbpl_judging.specs.declared.kind.Kind.TheVariants as phrases
 use Rattle.dbpl_judging.specs.declared.typed.Typed.{Typed}
 use Rattle.dbpl_rules_operators.specs.Constants.{reckoned, reckoned_logic, reckoned_not, reckoned_relation, reckoned_sign}
-use Rattle.dbpl_rules_operators.specs.Fitting.{as_ordinal, taken}
+use Rattle.dbpl_rules_operators.specs.Fitting.{as_ordinal, as_type}
 use Rattle.dbpl_rules_operators.specs.Hosts.{host, is_other, joined, result_host, whole_kind}
 use Rattle.dbpl_rules_operators.specs.Rules.{S15, S15_divisor, S25, S26, S27, S28, S29, S30}
 use Rattle.dbpl_value.specs.declared.db_type.DbType.TheVariants as types
@@ -132,7 +132,7 @@ compared_as one other =
 
 -- an operand beside one of this kind: a string has the array's type beside an array, and is its character beside a CHAR
 unfoldable pub operand : Kind → Typed → CoreExpr
-operand (phrases.Of t) e = taken t e
+operand (phrases.Of t) e = as_type t e
 operand _ e = as_ordinal e
 
 unfoldable pub compared_tree : Place → Relation → Typed → Typed → CoreExpr

@@ -5,12 +5,13 @@ use Rattle.dbpl_core.specs.declared.arithmetic_operator.ArithmeticOperator.TheVa
 use Rattle.dbpl_judging.specs.declared.facts.Facts.{Facts}
 use Rattle.dbpl_judging.specs.declared.kind.Kind.{Kind}
 use Rattle.dbpl_judging.specs.declared.kind.Kind.TheVariants as phrases
-use Rattle.dbpl_rules_operators.specs.Constants.{cardinals, integers, whole_constants}
-use Rattle.dbpl_rules_operators.specs.Fitting.{takes}
+use Rattle.dbpl_rules_operators.specs.Constants.{whole_constants}
+use Rattle.dbpl_rules_operators.specs.Fitting.{lies_in, takes_kind}
 use Rattle.dbpl_rules_operators.specs.Hosts.{is_boolean, is_whole}
 use Rattle.dbpl_rules_operators.specs.declared.host.Host.{Host}
 use Rattle.dbpl_rules_operators.specs.declared.host.Host.TheVariants as hosts
 use Rattle.dbpl_value.specs.Types.{is_char_array, is_in, is_ordinal}
+use Rattle.dbpl_value.specs.declared.db_type.DbType.TheVariants as types
 
 -- S13: A number is at most 4,294,967,295 ..
 abbrev pub S13_number : ℕ → Bool
@@ -60,8 +61,8 @@ S26 = is_boolean
 
 -- S27: The operands of =, # and <> have one host or one type, or are a string and an array that takes it.
 abbrev pub S27 : Kind → Kind → Bool
-S27 (phrases.Of t) other = takes t other
-S27 one (phrases.Of t) = takes t one
+S27 (phrases.Of t) other = takes_kind t other
+S27 one (phrases.Of t) = takes_kind t one
 S27 phrases.Whole phrases.Whole = true
 S27 (phrases.Text length first) (phrases.Text other_length other_first) = length == 1 && other_length == 1
 S27 _ _ = false
@@ -76,8 +77,8 @@ abbrev pub S28 : Kind → Kind → Bool
 S28 one other = S27 one other && is_ordered one && is_ordered other
 
 abbrev pub lies_in_host : Kind → Option ℤ → Host → Bool
-lies_in_host phrases.Whole (Some n) hosts.Integer = is_in integers n
-lies_in_host phrases.Whole (Some n) hosts.Cardinal = is_in cardinals n
+lies_in_host phrases.Whole number hosts.Integer = lies_in types.Int number
+lies_in_host phrases.Whole number hosts.Cardinal = lies_in types.Card number
 lies_in_host _ _ _ = true
 
 -- S29: A whole constant beside another operand lies in that one's host.

@@ -7,7 +7,7 @@ ghost use Rattle.dbpl_rules_operators.specs.Operators.{compared as judged, compa
 
 use crate::constants::reckoned_relation;
 use crate::deciding::boolean;
-use crate::fitting::{as_ordinal, taken};
+use crate::fitting::{as_ordinal, as_type};
 use crate::hosts::phrase_host;
 use crate::reckoning::beside;
 use crate::rules::may_compare;
@@ -81,7 +81,7 @@ fn operand(
     ensures { IfOk result (λ made. made ≡ operand_of kind.now (record { facts = facts.now; tree = tree })) }
 {
     match kind {
-        Kind::Of(t) => taken(alloc, t, facts, tree),
+        Kind::Of(t) => as_type(alloc, t, facts, tree),
         _ => as_ordinal(alloc, facts, tree),
     }
 }

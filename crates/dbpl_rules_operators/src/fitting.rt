@@ -2,7 +2,7 @@
 ghost use Rattle.std.specs.Prelude.{◌≡◌, ◌==◌, ◌&&◌, ◌||◌, IfOk, nat_le, unwrap_or};
 ghost use Rattle.dbpl_rules_operators.specs.Hosts.{host, host_of, is_character, is_whole};
 ghost use Rattle.dbpl_value.specs.Types.{count_of as count_of_type, is_char_array as is_char_array_type};
-ghost use Rattle.dbpl_rules_operators.specs.Fitting.{as_array as array_of, as_ordinal as ordinal_of, fits as fits_type, fitted as fitted_to, index_of as index_type, lies_in as lies_in_type, taken as taken_by, takes as takes_kind, takes_text as takes_text_of};
+ghost use Rattle.dbpl_rules_operators.specs.Fitting.{as_array as array_of, as_ordinal as ordinal_of, as_type as typed_as, fits as fits_type, fitted as fitted_to, index_of as index_type, lies_in as lies_in_type, takes_kind as takes_kind_of, takes_text as takes_text_of};
 
 use crate::hosts::{has_one_host, phrase_host, type_host};
 use crate::parts::instead;
@@ -50,8 +50,8 @@ fn takes_text(t: &DbType, length: u64) -> bool
 }
 
 /// Whether a phrase has the type's host or is of the type itself.
-pub fn takes(t: &DbType, kind: &Kind) -> bool
-    ensures { result ≡ takes_kind t.now kind.now }
+pub fn takes_kind(t: &DbType, kind: &Kind) -> bool
+    ensures { result ≡ takes_kind_of t.now kind.now }
 {
     match kind {
         Kind::Whole => type_host(t).is_whole(),
@@ -79,7 +79,7 @@ fn are_whole(t: &DbType, kind: &Kind) -> bool
 fn is_alike(t: &DbType, kind: &Kind) -> bool
     ensures { result ≡ (takes_kind t.now kind.now || (is_whole (host kind.now) && is_whole (host_of t.now))) }
 {
-    takes(t, kind) || are_whole(t, kind)
+    takes_kind(t, kind) || are_whole(t, kind)
 }
 
 /// Whether a phrase is assignable to the type.
@@ -137,14 +137,14 @@ fn array_text(
     }
 }
 
-/// The tree of a phrase that the type takes.
-pub fn taken(
+/// The tree of a phrase that the type takes, as one of the type.
+pub fn as_type(
     alloc: Global,
     t: &Shared<DbType>,
     facts: &Facts,
     tree: Boxed<CoreExpr>,
 ) -> Result<Boxed<CoreExpr>, Memory>
-    ensures { IfOk result (λ made. made ≡ taken_by t.now (record { facts = facts.now; tree = tree })) }
+    ensures { IfOk result (λ made. made ≡ typed_as t.now (record { facts = facts.now; tree = tree })) }
 {
     if range_of(t.get()).is_some() {
         as_ordinal(alloc, facts, tree)

@@ -18,7 +18,7 @@ mod tests;
 
 pub use comparing::compared;
 pub use deciding::{logical, negated};
-pub use fitting::{as_ordinal, fits, fitted, index_of, lies_in, taken, takes};
+pub use fitting::{as_ordinal, as_type, fits, fitted, index_of, lies_in, takes_kind};
 pub use host::Host;
 pub use hosts::{has_one_host, host_type, phrase_host, type_host};
 pub use literals::{character, number, ordinal_constant, text, text_constant, whole_constant};

@@ -4,10 +4,10 @@ ghost use Rattle.dbpl_rules_operators.specs.Operators.{may_compare as may_be_com
 ghost use Rattle.dbpl_rules_operators.specs.Rules.{S15_divisor, S25, S27, S28, S29, S30, is_ordered as is_kind_ordered};
 
 use crate::Host;
-use crate::fitting::takes;
+use crate::fitting::{lies_in, takes_kind};
 use dbpl_core::{ArithmeticOperator, Relation};
 use dbpl_judging::{Facts, Kind};
-use dbpl_value::{is_char_array, range_of};
+use dbpl_value::{DbType, is_char_array, range_of};
 
 /// S15, of a divisor.
 pub(crate) fn may_divide(
@@ -43,8 +43,8 @@ pub(crate) fn are_alike(one: &Kind, other: &Kind) -> bool
     ensures { result ≡ S27 one.now other.now }
 {
     match (one, other) {
-        (Kind::Of(t), other) => takes(t.get(), other),
-        (one, Kind::Of(t)) => takes(t.get(), one),
+        (Kind::Of(t), other) => takes_kind(t.get(), other),
+        (one, Kind::Of(t)) => takes_kind(t.get(), one),
         (Kind::Whole, Kind::Whole) => true,
         (Kind::Text(length, _), Kind::Text(other, _)) => *length == 1 && *other == 1,
         _ => false,
@@ -81,9 +81,9 @@ pub(crate) fn may_compare(relation: Relation, one: &Kind, other: &Kind) -> bool
 pub(crate) fn lies_beside(facts: &Facts, other: Host) -> bool
     ensures { result ≡ S29 facts.now other }
 {
-    match (&facts.kind, facts.number, other) {
-        (Kind::Whole, Some(n), Host::Integer) => -2_147_483_648 <= n && n <= 2_147_483_647,
-        (Kind::Whole, Some(n), Host::Cardinal) => 0 <= n && n <= 4_294_967_295,
+    match (&facts.kind, other) {
+        (Kind::Whole, Host::Integer) => lies_in(&DbType::Int, facts.number),
+        (Kind::Whole, Host::Cardinal) => lies_in(&DbType::Card, facts.number),
         _ => true,
     }
 }

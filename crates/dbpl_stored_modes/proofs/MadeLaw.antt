@@ -20,7 +20,7 @@ use Rattle.dbpl_promise.specs.Work.{Work}
 use Rattle.dbpl_store.specs.Beginning.{LeavesBegun, MayBecomeEmpty, StandsEmpty}
 use Rattle.dbpl_store.specs.Stands.{LeavesOld, stands}
 use Rattle.dbpl_stored_modes.proofs.RunLaw.{rose_later}
-use Rattle.dbpl_stored_modes.specs.CreateCommand.{EndsCreate, IsTaken, MayCreate, creates, made}
+use Rattle.dbpl_stored_modes.specs.CreateCommand.{EndsCreate, IsTaken, MayCreate, creates, store_made}
 use Rattle.dbpl_stored_modes.specs.Creating.{IsBeingMade, answer_of}
 use Rattle.dbpl_stored_modes.specs.Images.{EachImage}
 use Rattle.dbpl_world.proofs.Moments.{moments_last, moments_weaken}
@@ -55,7 +55,7 @@ module _ (name : List ℕ) (work : Work) (tells : IsTrue work.tells) where
   apart status.Foreign free is = free_foreign (store_before name work) (free tells) (is tells)
   apart _ free is = absurd is
 
-  made_determined : IsDetermined (made name) work
+  made_determined : IsDetermined (store_made name) work
   made_determined = record {
     one = λ a b left right. refl;
     refusal = refusal;
@@ -63,7 +63,7 @@ module _ (name : List ℕ) (work : Work) (tells : IsTrue work.tells) where
   }
 
   pub create_determined : IsDetermined (creates name).due work
-  create_determined = joined (made name) (λ _. gives status.Done) work made_determined (λ done passes. given work status.Done)
+  create_determined = joined (store_made name) (λ _. gives status.Done) work made_determined (λ done passes. given work status.Done)
 
 -- ---- what making an empty store of the mounted one says
 

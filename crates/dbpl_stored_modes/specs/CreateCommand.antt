@@ -23,8 +23,8 @@ IsTaken name work status.Foreign = IsTrue work.tells → IsForeign (store_before
 IsTaken name work _ = ⊥
 
 -- THE stage in which a store is made where none is
-abbrev pub made : List ℕ → Stage (Unit {0})
-made name = record {
+abbrev pub store_made : List ℕ → Stage (Unit {0})
+store_made name = record {
   passes = λ work done. IsTrue work.tells → IsFree (store_before name work);
   refuses = IsTaken name;
   fails = disk_faults;
@@ -53,7 +53,7 @@ pub record EndsCreate (name : List ℕ) (work : Work) (answer : Status) (s : Sta
 abbrev pub creates : List ℕ → Promise
 creates name = record {
   due = do
-    _ ← made name
+    _ ← store_made name
     gives status.Done;
   runs = Never;
   may = MayCreate name;

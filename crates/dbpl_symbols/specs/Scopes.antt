@@ -63,8 +63,8 @@ abbrev pub entered : Declarations → Declarations
 entered scope = record scope { starts = scope.starts ++ length scope.pairs ∷ [] }
 
 -- with one more level, which has these declarations
-abbrev pub inside : List Pair → Declarations → Declarations
-inside more scope = with_pairs more (entered scope)
+abbrev pub with_level : List Pair → Declarations → Declarations
+with_level more scope = with_pairs more (entered scope)
 
 -- THE scope without its last level, where that isn't the first
 abbrev pub left : Declarations → Declarations

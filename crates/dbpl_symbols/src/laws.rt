@@ -3,14 +3,14 @@ ghost use Rattle.std.specs.Prelude.{◌≡◌, ℕ, List, IfSome};
 ghost use Rattle.dbpl_symbols.specs.InOutNames.{in_out_exports};
 ghost use Rattle.dbpl_symbols.specs.Interfaces.{interface_of, shown};
 ghost use Rattle.dbpl_symbols.specs.Known.{IsKnown, IsKnownDecl, IsKnownItself, ShowsKnown};
-ghost use Rattle.dbpl_symbols.specs.Scopes.{Declarations, inside, left, seen};
+ghost use Rattle.dbpl_symbols.specs.Scopes.{Declarations, with_level, left, seen};
 ghost use Rattle.dbpl_symbols.specs.StandardNames.{standard_scope};
 ghost use Rattle.dbpl_symbols.specs.declared.exports.Exports.{Exports as AnyExports};
 ghost use Rattle.dbpl_symbols.specs.declared.pair.Pair.{Pair as AnyPair};
 
 /// Leaving a level gives the scope as it was when the level was entered, whatever was declared at it.
 pub fn entered_and_left()
-    ensures { (scope : Declarations) (more : List AnyPair) → left (inside more scope) ≡ scope }
+    ensures { (scope : Declarations) (more : List AnyPair) → left (with_level more scope) ≡ scope }
 {}
 
 /// What every text knows is known: the standard names, and what InOut shows.

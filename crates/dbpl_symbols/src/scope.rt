@@ -3,7 +3,7 @@ ghost use Rattle.std.specs.Prelude.{◌≡◌, ◌↔◌, ◌+◌, ◌++◌, [],
 ghost use Rattle.std.specs.Option.{option_copied};
 ghost use Rattle.dbpl_symbols.specs.Interfaces.{is_own};
 ghost use Rattle.dbpl_symbols.specs.Parameters.{param_pair, with_params};
-ghost use Rattle.dbpl_symbols.specs.Scopes.{empty_scope, entered, found, innermost, inside, is_declared, last_level, last_start as last_start_of, left, levels, seen, with_last, with_pair};
+ghost use Rattle.dbpl_symbols.specs.Scopes.{empty_scope, entered, found, innermost, with_level, is_declared, last_level, last_start as last_start_of, left, levels, seen, with_last, with_pair};
 ghost use Rattle.dbpl_symbols.specs.StandardNames.{own};
 ghost use Rattle.dbpl_symbols.specs.declared.declare_err.DeclareErr.TheVariants as refusals;
 ghost use Rattle.dbpl_symbols.specs.declared.pair.Pair.{Pair as AnyPair};
@@ -174,7 +174,7 @@ impl Scope {
         ensures joined { flat_map (λ level. level) (levels self.now) ≡ self.now.pairs }
         ensures count { length (levels self.now) ≡ length self.now.starts + 1 }
         ensures declared { (pair : AnyPair) → levels (with_pair pair self.now) ≡ with_last pair (levels self.now) }
-        ensures entered { (more : Seq AnyPair) → levels (inside more self.now) ≡ levels self.now ++ more ∷ [] }
+        ensures entered { (more : Seq AnyPair) → levels (with_level more self.now) ≡ levels self.now ++ more ∷ [] }
         ensures found { (name : Seq ℕ) → found name self.now ≡ innermost name (reverse (levels self.now)) }
     {
         let _ = &self.held;

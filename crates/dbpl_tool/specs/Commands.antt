@@ -42,7 +42,7 @@ Keeps words work answer = (asked : Asked) → Asks words asked → IsReported (A
 
 -- THE answer to these words: what they ask for is kept, and words that ask for nothing, and no others, are bad words, after
 -- which nothing was done but that the report was noted.
-pub record Answers (words : List (List ℕ)) (work : Work) (answer : Status) : Type 0 where
+pub record AnswersWords (words : List (List ℕ)) (work : Work) (answer : Status) : Type 0 where
   pub keeps : Keeps words work answer
   pub bad_words : ((asked : Asked) → Asks words asked → ⊥) → answer ≡ status.BadWords
   pub bad_words_only : answer ≡ status.BadWords → (asked : Asked) → Asks words asked → ⊥

@@ -7,7 +7,7 @@ use Rattle.dbpl_core.specs.Outcomes.{TellsOfEnd}
 use Rattle.dbpl_promise.specs.Runs.{IsTiedThroughout, Run}
 use Rattle.dbpl_promise.specs.Work.{Work}
 use Rattle.dbpl_stored_modes.specs.Images.{StandsThere}
-use Rattle.dbpl_tool.specs.Commands.{Answers, Runs}
+use Rattle.dbpl_tool.specs.Commands.{AnswersWords, Runs}
 use Rattle.dbpl_value.specs.declared.bound.Bound.{Bound}
 use Rattle.dbpl_words.specs.Asked.{Asks, Create, Run as RunOver}
 use Rattle.dbpl_world.specs.History.{History, now}
@@ -24,9 +24,9 @@ pub record FollowsOn (words next : List (List ℕ)) (work : Work) (answer next_a
   pub history : History
   pub counts : Counts
   pub shelf_faults : ℕ
-  pub first : Answers words
+  pub first : AnswersWords words
       (record work { after = history; counts_after = counts; shelf_faults_after = shelf_faults }) answer
-  pub second : Answers next
+  pub second : AnswersWords next
       (record work { before = history; counts_before = counts; shelf_faults_before = shelf_faults }) next_answer
   -- Each image of a store that the first one left stands for one database ..
   pub stood : (store : List ℕ) → LeavesStore words store answer →

@@ -4,7 +4,7 @@ use Rattle.std.specs.Prelude.{IsSome}
 use Rattle.dbpl_promise.specs.Work.{IsTold, work_of}
 use Rattle.dbpl_tool.proofs.Following.{as_read, leaves_store, runs_over_files, stood_for}
 use Rattle.dbpl_tool.proofs.next.one_behind_another.Goals as goal
-use Rattle.dbpl_tool.specs.Commands.{Answers}
+use Rattle.dbpl_tool.specs.Commands.{AnswersWords}
 use Rattle.dbpl_world.specs.History.{now}
 
 pub returns : goal.returns
@@ -27,7 +27,7 @@ returns g c = λ told.
         noted = c.dbpl-first.ensures.noted;
         counts = c.dbpl-first.ensures.counts;
       };
-      second = subst (λ files. Answers c.args.next.now (record second { files = files }) c.dbpl-second.result) same (record {
+      second = subst (λ files. AnswersWords c.args.next.now (record second { files = files }) c.dbpl-second.result) same (record {
         keeps = c.dbpl-second.ensures.answers;
         bad_words = c.dbpl-second.ensures.bad_words;
         bad_words_only = c.dbpl-second.ensures.bad_words_only;
