@@ -62,6 +62,19 @@ BEGIN
 END P.
 ";
 
+/// Two records of one key in one set
+const TWO_OF_ONE_KEY: &[u8] = b"MODULE P;
+FROM D IMPORT Sub, Subs, r;
+FROM InOut IMPORT WriteString, WriteLn;
+TRANSACTION add;
+BEGIN
+  r :+ Subs{Sub{1, 5}, Sub{1, 6}}
+END add;
+BEGIN
+  WriteString('a'); add; WriteString('b'); WriteLn
+END P.
+";
+
 /// The head of a store, and its first gate
 const EMPTY: &[u8] = b"\x01DBPL-STORE-0000\0";
 
@@ -123,6 +136,16 @@ const ROWS: &[Row] = &[
         noted: b"trap 9 at 1:7:5\n",
         log_after: KEPT,
     },
+    Row {
+        words: RUN,
+        schema: SUBS,
+        program: TWO_OF_ONE_KEY,
+        log: EMPTY,
+        code: 1,
+        said: b"a",
+        noted: b"trap 9 at 1:6:8\n",
+        log_after: EMPTY,
+    },
     // What can't be run over is refused, and stays as it is.
     Row {
         words: RUN,
@@ -178,7 +201,7 @@ fn world_of(alloc: Global, log: &[u8]) -> Result<MemoryWorld, Fail> {
 }
 
 /// The log of the store `s` as a read gives it. Nothing where it can't be read.
-fn log_of(alloc: Global, world: &mut MemoryWorld) -> Option<Vec<u8>> {
+pub fn log_of(alloc: Global, world: &mut MemoryWorld) -> Option<Vec<u8>> {
     let Ok(mut bytes) = vec![in alloc; 0; 200] else {
         return None;
     };
