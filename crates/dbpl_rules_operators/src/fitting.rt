@@ -77,7 +77,7 @@ fn are_whole(t: &DbType, kind: &Kind) -> bool
 }
 
 fn is_alike(t: &DbType, kind: &Kind) -> bool
-    ensures { result ≡ (takes_kind t.now kind.now || (is_whole (host kind.now) && is_whole (host_of t.now))) }
+    ensures { result ≡ (takes_kind_of t.now kind.now || (is_whole (host kind.now) && is_whole (host_of t.now))) }
 {
     takes_kind(t, kind) || are_whole(t, kind)
 }
