@@ -1,5 +1,6 @@
 -- Where a store may be made, and what stands there while it is.
 use Rattle.std.specs.Prelude.{◌≡◌, ◌⊎◌, ℕ, ◌<◌, ◌≤◌, Bool, IsTrue, List, ◌∷◌, ◌++◌, length, drop, slice_index, Some}
+use Rattle.dbpl_base.specs.declared.limits.TheConstants.{PAGE_BYTES}
 use Rattle.dbpl_world.specs.History.{Store}
 use Rattle.dbpl_log.specs.Records.{open_head, HasText, HasHead, records_of}
 
@@ -19,7 +20,7 @@ IsBegun are_none log = MayBegin are_none log ⊎ HasSuch are_none log
 
 -- what is longer than this belongs to somebody else
 abbrev pub longest_unknown : ℕ
-longest_unknown = 4096
+longest_unknown = PAGE_BYTES
 
 -- no store, but more than an unfinished one has
 pub record IsForeign (disk : Store) : Type 0 where

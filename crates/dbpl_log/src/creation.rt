@@ -12,10 +12,11 @@ ghost use Rattle.dbpl_log.specs.declared.create_err.CreateErr.TheVariants as err
 use crate::CreateErr;
 use crate::head::{begins_shut, has_head};
 use crate::syncs::sync_both;
+use dbpl_base::limits::PAGE_BYTES;
 use dbpl_world::{Failed, Part, World, write_and_sync};
 
 /// What is longer is no unfinished store.
-const LONGEST_UNKNOWN: u64 = 4096;
+const LONGEST_UNKNOWN: u64 = PAGE_BYTES as u64;
 
 /// Makes a store without records. After a stop within it, it may be called again.
 pub fn create<W: World>(world: &mut W) -> Result<(), CreateErr>

@@ -3,6 +3,7 @@
 -- bounds a run. Database and module variables are apart: programs with persistent variables will begin over the database to
 -- which they are bound.
 use Rattle.std.specs.Prelude.{ℕ, zero, suc, ◌-◌, Bool, false, true, List, [], ◌∷◌, ◌++◌, slice_get, Option, Some, None}
+use Rattle.dbpl_base.specs.declared.limits.TheConstants.{OPEN_CALLS}
 use Rattle.dbpl_base.specs.declared.place.Place.{Place}
 use Rattle.dbpl_core.specs.Events.{Event}
 use Rattle.dbpl_core.specs.Stores.{first_store}
@@ -23,7 +24,7 @@ use Rattle.dbpl_value.specs.declared.value.Value.{Value}
 
 -- so many calls may be open
 unfoldable pub limit : ℕ
-limit = 10000
+limit = OPEN_CALLS
 
 -- ---- calls
 

@@ -1,5 +1,6 @@
 // Laws of the meaning, each the contract of a function that does nothing.
 ghost use Rattle.std.specs.Prelude.{◌≡◌, ◌≤◌, ◌+◌, ◌++◌, ℕ, suc, ℤ, Bool, false, true, List, [], ◌∷◌, Option, Some, slice_get};
+ghost use Rattle.dbpl_base.specs.declared.limits.TheConstants.{OPEN_CALLS};
 ghost use Rattle.dbpl_base.specs.declared.place.Place.{Place as AnyPlace};
 ghost use Rattle.dbpl_core.specs.Events.{Event};
 ghost use Rattle.dbpl_core.specs.declared.cell.Cell.{Cell as AnyCell};
@@ -48,7 +49,7 @@ pub fn loops_take_turns()
 /// A call is a turn in which one call less may be open, and trap 7 where none may be. So is the body of a module, which is the
 /// first that is open.
 pub fn calls_are_limited()
-    ensures limit { limit ≡ 10000 }
+    ensures limit { limit ≡ OPEN_CALLS }
     ensures none { (program : AnyProgram) (place : AnyPlace) (owner name : List ℕ) (cells : List AnyCell) → (calls_at program 0).routine place owner name cells ≡ traps 7 place }
     ensures none_of_in_out { (program : AnyProgram) (place : AnyPlace) (doing : Doing (Unit {0})) → (calls_at program 0).in_out place doing ≡ traps 7 place }
     ensures one { (program : AnyProgram) (room : ℕ) (place : AnyPlace) (owner name : List ℕ) (cells : List AnyCell) → (calls_at program (suc room)).routine place owner name cells ≡ turn (named_does program (calls_at program room) owner name cells) }

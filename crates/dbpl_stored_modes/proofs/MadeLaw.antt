@@ -2,7 +2,7 @@
 use Rattle.std.proofs.Common.{◌≡◌, ◌∙◌, ◌⊎◌, ◌≤◌, ◌<◌, ℕ, Bool, List, [], ◌∷◌, Some, Result, Ok, Err, OnOk, IsTrue, ap, arith, inl, inr, length, refl, subst, sym}
 use Rattle.dbpl_base.specs.declared.status.Status.{Status}
 use Rattle.dbpl_base.specs.declared.status.Status.TheVariants as status
-use Rattle.dbpl_log.specs.Beginning.{IsForeign, IsFree, begun}
+use Rattle.dbpl_log.specs.Beginning.{IsForeign, IsFree, begun, longest_unknown}
 use Rattle.dbpl_log.specs.Changes.{IsSynced, WritesLog}
 use Rattle.dbpl_log.specs.Records.{HasHead}
 use Rattle.dbpl_log.specs.declared.create_err.CreateErr.{CreateErr}
@@ -36,7 +36,7 @@ use Rattle.dbpl_world.specs.declared.counts.Counts.{Counts}
 free_foreign : (disk : Store) → IsFree disk → IsForeign disk → ⊥
 free_foreign disk free foreign = by_length foreign.long
   where
-    by_length : (4096 < length disk.log.now) ⊎ (4096 < length disk.pages.now) → ⊥
+    by_length : (longest_unknown < length disk.log.now) ⊎ (longest_unknown < length disk.pages.now) → ⊥
     by_length (inl long) = omega (arith, long, free.short_log)
     by_length (inr long) = omega (arith, long, free.short_pages)
 
