@@ -47,7 +47,8 @@ HasFront front bytes = bytes ≡ front ++ drop (length front) bytes
 -- The log with a record behind the gate at this place: the gate open, the length of the record, the record, a shut gate, and
 -- whatever stood behind.
 abbrev pub with_record : ℕ → List ℕ → List ℕ → List ℕ
-with_record gate bytes old = take gate old ++ 1 ∷ (to_le_bytes w32 (length bytes) ++ bytes ++ 0 ∷ drop (gate + 6 + length bytes) old)
+with_record gate bytes old =
+    take gate old ++ 1 ∷ (to_le_bytes w32 (length bytes) ++ bytes ++ 0 ∷ drop (gate + 6 + length bytes) old)
 
 -- what is written behind a gate before it is opened: the length of the record, the record, and the next gate
 abbrev pub staging : ℕ → List ℕ → List Event

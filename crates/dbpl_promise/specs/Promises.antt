@@ -34,6 +34,7 @@ pub record Answered (promise : Promise) (work : Work) (answer : Status) : Type 0
   pub moments : IsTrue work.tells → EachMoment (promise.may work answer) work.before work.after
   pub end : IsTrue work.tells → promise.ends work answer (now work.after)
   -- Nothing else changes, and no store is mounted but one that may be.
-  pub only : IsTrue work.tells → EachMoment (LeavesAlone (promise.due.mounts work) (now work.before)) work.before work.after
+  pub only : IsTrue work.tells →
+      EachMoment (LeavesAlone (promise.due.mounts work) (now work.before)) work.before work.after
   -- A print that failed is always the answer.
   pub prints : (answer ≡ status.OutFault) ⊎ (work.counts_after.say_faults ≡ work.counts_before.say_faults)

@@ -14,7 +14,8 @@ pub record MayBecomeEmpty (log pages : List ℕ) : Type 0 where
 -- Whatever a stop leaves is no store yet, and one may still be made of it, or it stands for the empty database. It leaves
 -- of the pages what it could leave at old. Of the world nothing but the disk of the mounted store has changed.
 pub record LeavesBegun (old s : State) : Type 0 where
-  pub left : (log pages : List ℕ) → IsImage s.disk.log log → IsImage s.disk.pages pages → MayBecomeEmpty log pages ⊎ (stands log pages ≡ Some [])
+  pub left : (log pages : List ℕ) → IsImage s.disk.log log → IsImage s.disk.pages pages →
+      MayBecomeEmpty log pages ⊎ (stands log pages ≡ Some [])
   pub pages : (left : List ℕ) → IsImage s.disk.pages left → IsImage old.disk.pages left
   pub others : s ≡ record old { disk = s.disk }
 

@@ -42,7 +42,8 @@ IsBoundTo field store =
 
 -- the database with this relation in the bound variable
 abbrev pub with_bound_relation : Value → Store → List Bound
-with_bound_relation relation store = option_map_or (λ at. with_relation relation at store.database) store.bound store.database
+with_bound_relation relation store =
+    option_map_or (λ at. with_relation relation at store.database) store.bound store.database
 
 -- The store is open on a disk in this state: a stop leaves there one log, whose newest record is the last commit.
 abbrev pub IsOpen : State → Store → Type 0

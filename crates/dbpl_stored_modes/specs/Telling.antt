@@ -12,7 +12,8 @@ TellsOfRun stored (Ok done) answer = answer ≡ status.Done
 TellsOfRun stored (Err (errors.Trapped trap)) answer = answer ≡ status.Trapped trap.kind trap.place
 TellsOfRun stored (Err errors.NotStore) answer = answer ≡ status.NotStore
 TellsOfRun stored (Err (errors.Damaged page)) answer = answer ≡ status.Damaged page
-TellsOfRun stored (Err errors.SchemaDiffers) answer = (answer ≡ status.SchemaDiffers stored.relation.name) ⊎ (answer ≡ status.Memory)
+TellsOfRun stored (Err errors.SchemaDiffers) answer =
+    (answer ≡ status.SchemaDiffers stored.relation.name) ⊎ (answer ≡ status.Memory)
 TellsOfRun stored (Err errors.DiskFault) answer = answer ≡ status.DiskFault
 TellsOfRun stored (Err errors.OutFault) answer = answer ≡ status.OutFault
 TellsOfRun stored (Err errors.Memory) answer = answer ≡ status.Memory

@@ -22,7 +22,8 @@ pub record HasMadePrefix (events : List Event) (database : List Bound) (before l
 
 -- Whatever a stop leaves of the mounted store is tied to what was said since old. Of the world nothing else has changed.
 pub record LeavesTied (events : List Event) (database : List Bound) (old s : State) : Type 0 where
-  pub left : (log pages : List ℕ) → IsImage s.disk.log log → IsImage s.disk.pages pages → HasMadePrefix events database old.said log pages s.said
+  pub left : (log pages : List ℕ) → IsImage s.disk.log log → IsImage s.disk.pages pages →
+      HasMadePrefix events database old.said log pages s.said
   pub others : s ≡ record old { disk = s.disk; said = s.said }
 
 -- All of these events were made since old: what they print was said, and whatever a stop leaves of the mounted store

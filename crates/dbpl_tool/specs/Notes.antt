@@ -27,7 +27,8 @@ NotesReport work answer =
 
 -- Of all counts only those of failed prints and notes and of faults of the disk may have risen.
 pub record OnlyCommandFaults (old new : Counts) : Type 0 where
-  pub others : new ≡ record old { say_faults = new.say_faults; note_faults = new.note_faults; disk_faults = new.disk_faults }
+  pub others :
+      new ≡ record old { say_faults = new.say_faults; note_faults = new.note_faults; disk_faults = new.disk_faults }
   pub say_later : old.say_faults ≤ new.say_faults
   pub note_later : old.note_faults ≤ new.note_faults
   pub disk_later : old.disk_faults ≤ new.disk_faults
