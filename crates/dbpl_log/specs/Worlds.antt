@@ -1,5 +1,5 @@
 -- Words for the contracts of calls that are lent a world.
-use Rattle.std.specs.Prelude.{List, ℕ}
+use Rattle.std.specs.Prelude.{◌≡◌, List, ℕ}
 use Rattle.dbpl_world.specs.Counts.{Rose}
 use Rattle.dbpl_world.specs.History.{State, Store, now, settled_store}
 use Rattle.dbpl_world.specs.Moments.{EachMoment}
@@ -29,3 +29,7 @@ Meanwhile world Q before after =
 -- a fault of the disk was counted
 abbrev pub DiskFailed : {W : Type 0} → outside.Ghosts W → W → W → Type 0
 DiskFailed world before after = Rose (world.counts before).disk_faults (world.counts after).disk_faults
+
+-- no fault of the disk was counted
+abbrev pub DiskHeld : {W : Type 0} → outside.Ghosts W → W → W → Type 0
+DiskHeld world before after = (world.counts after).disk_faults ≡ (world.counts before).disk_faults

@@ -5,7 +5,7 @@ ghost use Rattle.dbpl_world.specs.History.{more};
 ghost use Rattle.dbpl_world.specs.Counts.{OnlyDiskFaults};
 ghost use Rattle.dbpl_log.specs.Changes.{LeavesLog, ChangesLog, HasFront, HasEither, with_record, staging};
 ghost use Rattle.dbpl_log.specs.Rest.{IsAtRest, length_of};
-ghost use Rattle.dbpl_log.specs.Worlds.{DiskFailed, Meanwhile, disk_of, log_of};
+ghost use Rattle.dbpl_log.specs.Worlds.{DiskFailed, DiskHeld, Meanwhile, disk_of, log_of};
 
 use crate::Log;
 use dbpl_world::{Failed, Part, World, write_and_sync};
@@ -30,6 +30,7 @@ impl Log {
         ensures kept { OnErr result (self.new ≡ self.old) }
         ensures same { W.mounted world.new ≡ W.mounted world.old }
         ensures counts { OnlyDiskFaults (W.counts world.old) (W.counts world.new) }
+        ensures fine { OnOk result (DiskHeld W.World world.old world.new) }
         ensures cause { OnErr result (DiskFailed W.World world.old world.new) }
     {
         stage(world, self.gate, added)?;
@@ -53,6 +54,7 @@ fn stage<W: World>(world: &mut W, gate: u64, added: &[u8]) -> Result<(), Failed>
     ensures only_log { IsTrue W.tells → Meanwhile W.World ChangesLog world.old world.new }
     ensures same { W.mounted world.new ≡ W.mounted world.old }
     ensures counts { OnlyDiskFaults (W.counts world.old) (W.counts world.new) }
+    ensures fine { OnOk result (DiskHeld W.World world.old world.new) }
     ensures cause { OnErr result (DiskFailed W.World world.old world.new) }
 {
     let field = (added.len() as u32).to_le_bytes();

@@ -6,7 +6,7 @@ ghost use Rattle.dbpl_log.specs.Records.{HasHead};
 ghost use Rattle.dbpl_log.specs.Rest.{HasOnly};
 ghost use Rattle.dbpl_log.specs.Beginning.{MayBegin, IsBegun, IsForeign, IsFree, begun};
 ghost use Rattle.dbpl_log.specs.Changes.{LeavesLog, ChangesLog, WritesLog, KeepsLog};
-ghost use Rattle.dbpl_log.specs.Worlds.{DiskFailed, Meanwhile, disk_of, log_of, pages_of, synced_of};
+ghost use Rattle.dbpl_log.specs.Worlds.{DiskFailed, DiskHeld, Meanwhile, disk_of, log_of, pages_of, synced_of};
 ghost use Rattle.dbpl_log.specs.declared.create_err.CreateErr.TheVariants as errors;
 
 use crate::CreateErr;
@@ -49,6 +49,7 @@ pub fn create<W: World>(world: &mut W) -> Result<(), CreateErr>
 
     ensures same { W.mounted world.new ≡ W.mounted world.old }
     ensures counts { OnlyDiskFaults (W.counts world.old) (W.counts world.new) }
+    ensures fine { (result ≡ Err errors.Disk) ⊎ DiskHeld W.World world.old world.new }
     ensures cause { result ≡ Err errors.Disk → DiskFailed W.World world.old world.new }
 {
     sync_both(world)?;
@@ -68,6 +69,7 @@ fn check_free<W: World>(world: &mut W) -> Result<(), CreateErr>
     ensures unchanged { IsTrue W.tells → W.history world.new ≡ W.history world.old }
     ensures same { W.mounted world.new ≡ W.mounted world.old }
     ensures counts { OnlyDiskFaults (W.counts world.old) (W.counts world.new) }
+    ensures fine { (result ≡ Err errors.Disk) ⊎ DiskHeld W.World world.old world.new }
     ensures cause { result ≡ Err errors.Disk → DiskFailed W.World world.old world.new }
 {
     if has_head(world)? {
@@ -93,6 +95,7 @@ fn shut_head<W: World>(world: &mut W) -> Result<(), Failed>
     ensures only_log { IsTrue W.tells → Meanwhile W.World ChangesLog world.old world.new }
     ensures same { W.mounted world.new ≡ W.mounted world.old }
     ensures counts { OnlyDiskFaults (W.counts world.old) (W.counts world.new) }
+    ensures fine { OnOk result (DiskHeld W.World world.old world.new) }
     ensures cause { OnErr result (DiskFailed W.World world.old world.new) }
 {
     if begins_shut(world)? {

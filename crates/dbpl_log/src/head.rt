@@ -1,8 +1,8 @@
 // The first bytes of a log.
-ghost use Rattle.std.specs.Prelude.{◌≡◌, ◌↔◌, ◌∷◌, drop, IsTrue, IsSome, IfOk, OnErr};
+ghost use Rattle.std.specs.Prelude.{◌≡◌, ◌↔◌, ◌∷◌, drop, IsTrue, IsSome, IfOk, OnErr, OnOk};
 ghost use Rattle.dbpl_world.specs.Counts.{OnlyDiskFaults};
 ghost use Rattle.dbpl_log.specs.Records.{HasHead};
-ghost use Rattle.dbpl_log.specs.Worlds.{DiskFailed, log_of};
+ghost use Rattle.dbpl_log.specs.Worlds.{DiskFailed, DiskHeld, log_of};
 
 use dbpl_world::{Failed, Part, World};
 
@@ -13,6 +13,7 @@ pub(crate) fn has_head<W: World>(world: &mut W) -> Result<bool, Failed>
     ensures unchanged { IsTrue W.tells → W.history world.new ≡ W.history world.old }
     ensures same { W.mounted world.new ≡ W.mounted world.old }
     ensures counts { OnlyDiskFaults (W.counts world.old) (W.counts world.new) }
+    ensures fine { OnOk result (DiskHeld W.World world.old world.new) }
     ensures cause { OnErr result (DiskFailed W.World world.old world.new) }
 {
     let mut head = [0; 16];
@@ -28,6 +29,7 @@ pub(crate) fn begins_shut<W: World>(world: &mut W) -> Result<bool, Failed>
     ensures unchanged { IsTrue W.tells → W.history world.new ≡ W.history world.old }
     ensures same { W.mounted world.new ≡ W.mounted world.old }
     ensures counts { OnlyDiskFaults (W.counts world.old) (W.counts world.new) }
+    ensures fine { OnOk result (DiskHeld W.World world.old world.new) }
     ensures cause { OnErr result (DiskFailed W.World world.old world.new) }
 {
     let mut gate = [1];

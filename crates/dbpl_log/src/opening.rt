@@ -5,7 +5,7 @@ ghost use Rattle.dbpl_world.specs.Counts.{OnlyDiskFaults};
 ghost use Rattle.dbpl_log.specs.Records.{HasHead, records_of};
 ghost use Rattle.dbpl_log.specs.Rest.{IsAtRest, records_in};
 ghost use Rattle.dbpl_log.specs.Changes.{OnlySyncs, KeepsLog};
-ghost use Rattle.dbpl_log.specs.Worlds.{DiskFailed, Meanwhile, disk_of, log_of, synced_of};
+ghost use Rattle.dbpl_log.specs.Worlds.{DiskFailed, DiskHeld, Meanwhile, disk_of, log_of, synced_of};
 ghost use Rattle.dbpl_log.specs.declared.open_err.OpenErr.TheVariants as errors;
 
 use crate::head::has_head;
@@ -44,6 +44,7 @@ pub fn open<W: World>(alloc: Global, world: &mut W) -> Result<Opened, OpenErr>
 
     ensures same { W.mounted world.new ≡ W.mounted world.old }
     ensures counts { OnlyDiskFaults (W.counts world.old) (W.counts world.new) }
+    ensures fine { (result ≡ Err errors.Disk) ⊎ DiskHeld W.World world.old world.new }
     ensures cause { result ≡ Err errors.Disk → DiskFailed W.World world.old world.new }
 {
     sync_both(world)?;
@@ -66,6 +67,7 @@ fn read_log<W: World>(alloc: Global, world: &mut W) -> Result<Vec<u8>, OpenErr>
     ensures unchanged { IsTrue W.tells → W.history world.new ≡ W.history world.old }
     ensures same { W.mounted world.new ≡ W.mounted world.old }
     ensures counts { OnlyDiskFaults (W.counts world.old) (W.counts world.new) }
+    ensures fine { (result ≡ Err errors.Disk) ⊎ DiskHeld W.World world.old world.new }
     ensures cause { result ≡ Err errors.Disk → DiskFailed W.World world.old world.new }
 {
     let size = world.size(Part::Log)?;

@@ -4,7 +4,7 @@ ghost use Rattle.dbpl_world.specs.History.{Synced, more};
 ghost use Rattle.dbpl_world.specs.declared.part.Part.TheVariants.{Log, Pages};
 ghost use Rattle.dbpl_world.specs.Counts.{OnlyDiskFaults};
 ghost use Rattle.dbpl_log.specs.Changes.{OnlySyncs, KeepsLog};
-ghost use Rattle.dbpl_log.specs.Worlds.{DiskFailed, Meanwhile};
+ghost use Rattle.dbpl_log.specs.Worlds.{DiskFailed, DiskHeld, Meanwhile};
 
 use dbpl_world::{Failed, Part, World};
 
@@ -16,6 +16,7 @@ pub(crate) fn sync_both<W: World>(world: &mut W) -> Result<(), Failed>
     ensures only_syncs { IsTrue W.tells → Meanwhile W.World OnlySyncs world.old world.new }
     ensures same { W.mounted world.new ≡ W.mounted world.old }
     ensures counts { OnlyDiskFaults (W.counts world.old) (W.counts world.new) }
+    ensures fine { OnOk result (DiskHeld W.World world.old world.new) }
     ensures cause { OnErr result (DiskFailed W.World world.old world.new) }
 {
     world.sync(Part::Log)?;

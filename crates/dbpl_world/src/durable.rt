@@ -22,6 +22,7 @@ pub fn write_and_sync<W: World>(
     ensures moments { IsTrue W.tells → EachMoment (IsWriting part at bytes.now (now (W.history world.old))) (W.history world.old) (W.history world.new) }
     ensures same { W.mounted world.new ≡ W.mounted world.old }
     ensures counts { OnlyDiskFaults (W.counts world.old) (W.counts world.new) }
+    ensures fine { OnOk result ((W.counts world.new).disk_faults ≡ (W.counts world.old).disk_faults) }
     ensures cause { OnErr result (Rose (W.counts world.old).disk_faults (W.counts world.new).disk_faults) }
 {
     world.write_at(part, at, bytes)?;
