@@ -119,6 +119,7 @@ module _ (text : List ℕ) (work : Work) (answer : Status) (program : Program) (
           may = may_print program (now work.before).input said behind front;
           left = made said s same;
         });
+    pages = λ told tells name mounts. absurd (text_mounts text work name mounts);
     settled = λ told refuses name mounts. absurd (text_mounts text work name mounts);
   }
 
@@ -126,8 +127,9 @@ module _ (text : List ℕ) (work : Work) (answer : Status) (program : Program) (
       IsDue (runs_text text >>= ended) work answer ⊎ ((runs_text text >>= ended).fails work answer ⊎ (answer ≡ status.Memory)) →
       ((s : State) → s ≡ record (now work.before) { said = (now work.before).said ++ said } → HasEnded s) →
       (answer ≡ status.OutFault) ⊎ (work.counts_after.say_faults ≡ work.counts_before.say_faults) →
+      work.counts_after.disk_faults ≡ work.counts_before.disk_faults → work.shelf_faults_after ≡ work.shelf_faults_before →
       Answered (running (runs_text text)) work answer
-  printing no_refusal due all prints = record {
+  printing no_refusal due all prints disk source = record {
     answers = due;
     moments = λ tells. moments_weaken _ (MayRun (runs_text text) work answer) work.before work.after (may no_refusal) (saying tells);
     end = λ tells.
@@ -137,6 +139,8 @@ module _ (text : List ℕ) (work : Work) (answer : Status) (program : Program) (
         moments_weaken _ (LeavesAlone ((runs_text text >>= ended).mounts work) (now work.before)) work.before work.after
         (alone_saying ((runs_text text >>= ended).mounts work) (printed program) (now work.before)) (saying tells);
     prints = prints;
+    disk = inr disk;
+    source = inr source;
   }
     where
       saying : IsTrue work.tells → EachMoment (HasSaid (printed program) (now work.before)) work.before work.after
@@ -167,8 +171,9 @@ module _ (text : List ℕ) (work : Work) (program : Program) (the : IsTheModule 
       }
 
   pub printed_all : (IsTrue work.tells → work.after ≡ more work.before (map Said (printed program))) →
-      work.counts_after.say_faults ≡ work.counts_before.say_faults → Answered (running (runs_text text)) work status.Done
-  printed_all is fine =
+      work.counts_after.say_faults ≡ work.counts_before.say_faults → work.counts_after.disk_faults ≡ work.counts_before.disk_faults →
+      work.shelf_faults_after ≡ work.shelf_faults_before → Answered (running (runs_text text)) work status.Done
+  printed_all is fine disk source =
       printing text work status.Done program the (printed program) [] (sym (append-nil (printed program))) is (λ refusal. cc (refusal))
       (inl (inr (
         run_of program,
@@ -180,19 +185,20 @@ module _ (text : List ℕ) (work : Work) (program : Program) (the : IsTheModule 
           ends = end_told (now work.before).input;
         },
       )))
-      (λ s same tells. all_made s same) (inr fine)
+      (λ s same tells. all_made s same) (inr fine) disk source
 
   pub printed_some : (IsTrue work.tells → (n : ℕ) × (work.after ≡ more work.before (map Said (take n (printed program))))) →
-      Rose work.counts_before.say_faults work.counts_after.say_faults → Answered (running (runs_text text)) work status.OutFault
-  printed_some some rose = by_telling work.tells refl
+      Rose work.counts_before.say_faults work.counts_after.say_faults → work.counts_after.disk_faults ≡ work.counts_before.disk_faults →
+      work.shelf_faults_after ≡ work.shelf_faults_before → Answered (running (runs_text text)) work status.OutFault
+  printed_some some rose disk source = by_telling work.tells refl
     where
       by_telling : (tells : Bool) → work.tells ≡ tells → Answered (running (runs_text text)) work status.OutFault
       by_telling true told =
           let front = some told in
           printing text work status.OutFault program the (take front.0 (printed program)) (drop front.0 (printed program))
           (sym (take-append-drop front.0 (printed program))) (λ tells. front.1) (λ refusal. cc (refusal))
-          (inr (inl (inr (run_of program, (program, the.spelt, refl), rose)))) (λ s same tells. absurd tells) (inl refl)
+          (inr (inl (inr (run_of program, (program, the.spelt, refl), rose)))) (λ s same tells. absurd tells) (inl refl) disk source
       by_telling false told =
           printing text work status.OutFault program the [] (printed program) refl (λ tells. absurd (cc (tells, told)))
           (λ refusal. cc (refusal)) (inr (inl (inr (run_of program, (program, the.spelt, refl), rose))))
-          (λ s same tells. absurd tells) (inl refl)
+          (λ s same tells. absurd tells) (inl refl) disk source

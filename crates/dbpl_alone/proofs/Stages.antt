@@ -94,7 +94,7 @@ alone_determined file work told =
 -- ---- a run that stopped with nothing done, or behind a text that was fetched
 
 module _ (file : List ℕ) (work : Work) (answer : Status) where
-  pub unfetched : Stops (fetched file) work answer → IsStill work → Answered (running (runs_alone file)) work answer
+  pub unfetched : Stops (fetched file) work answer → IsStill work answer → Answered (running (runs_alone file)) work answer
   unfetched stops still =
       stopped (runs_alone file) work answer (alone_kinds file) still
       (stops_in_front (fetched file) runs_text work answer (λ name never. never)
@@ -111,7 +111,7 @@ module _ (file : List ℕ) (work : Work) (answer : Status) where
   not_read text status.Memory is = inr (inr refl)
   not_read text _ is = absurd is
 
-  pub unaccepted : (text : List ℕ) → (fetched file).passes work text → IsNotRead text answer → IsStill work →
+  pub unaccepted : (text : List ℕ) → (fetched file).passes work text → IsNotRead text answer → IsStill work answer →
       Answered (running (runs_alone file)) work answer
   unaccepted text passes is still =
       behind_fetch text passes

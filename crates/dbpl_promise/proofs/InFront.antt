@@ -62,6 +62,7 @@ module _ {A : Type 0} (stage : Stage A) (next : A → Stage Run) (work : Work) (
   ends s e = record {
     whole = λ told run all tells. e.whole told run (behind told run all) tells;
     at_rest = λ told run all stood fine. e.at_rest told run (behind told run all) stood fine;
+    pages = λ told tells name may. e.pages told tells name (mounted told name may);
     settled = λ told refuses name may. e.settled told (refused told refuses) name (mounted told name may);
   }
 
@@ -78,4 +79,6 @@ module _ {A : Type 0} (stage : Stage A) (next : A → Stage Run) (work : Work) (
         (alone_more ((next a >>= ended).mounts work) (((stage >>= next) >>= ended).mounts work) mounts (now work.before))
         (did.only tells);
     prints = did.prints;
+    disk = did.disk;
+    source = did.source;
   }

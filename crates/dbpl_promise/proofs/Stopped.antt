@@ -14,10 +14,12 @@ use Rattle.dbpl_world.proofs.Moments.{moments_start}
 use Rattle.dbpl_world.specs.History.{History, State, now}
 use Rattle.dbpl_world.specs.Moments.{EachMoment}
 
--- Nothing was done: the world is as it was, and no print has failed.
-pub record IsStill (work : Work) : Type 0 where
+-- Nothing was done: the world is as it was, no print has failed, and another fault is the answer.
+pub record IsStill (work : Work) (answer : Status) : Type 0 where
   pub world : IsTrue work.tells → work.after ≡ work.before
   pub prints : work.counts_after.say_faults ≡ work.counts_before.say_faults
+  pub disk : (answer ≡ status.DiskFault) ⊎ (work.counts_after.disk_faults ≡ work.counts_before.disk_faults)
+  pub source : (answer ≡ status.SourceFault) ⊎ (work.shelf_faults_after ≡ work.shelf_faults_before)
 
 -- refused before a store may be mounted, or a fault or want of memory
 abbrev pub StopsUnmounted : {A : Type 0} → Stage A → Work → Status → Type 0
@@ -25,12 +27,13 @@ StopsUnmounted stage work answer =
     (stage.refuses work answer × (IsTold work → (name : List ℕ) → stage.mounts work name → ⊥))
     ⊎ (stage.fails work answer ⊎ (answer ≡ status.Memory))
 
-pub still_moments : (Q : State → Type 0) (work : Work) → IsStill work → IsTrue work.tells → Q (now work.before) →
-    EachMoment Q work.before work.after
+pub still_moments : (Q : State → Type 0) (work : Work) {answer : Status} → IsStill work answer → IsTrue work.tells →
+    Q (now work.before) → EachMoment Q work.before work.after
 still_moments Q work still tells holds =
     subst (λ (h : History). EachMoment Q work.before h) (sym (still.world tells)) (moments_start Q work.before holds)
 
-module _ (stage : Stage Run) (work : Work) (answer : Status) (kinds : HasKinds stage) (still : IsStill work) where
+module _ (stage : Stage Run) (work : Work) (answer : Status) (kinds : HasKinds stage)
+    (still : IsStill work answer) where
   due : StopsUnmounted stage work answer →
       IsDue (stage >>= ended) work answer ⊎ ((stage >>= ended).fails work answer ⊎ (answer ≡ status.Memory))
   due (inl refused) = inl (inl (inl refused.0))
@@ -67,6 +70,7 @@ module _ (stage : Stage Run) (work : Work) (answer : Status) (kinds : HasKinds s
     whole = λ told run passes tells. absurd (no_end why tells);
     at_rest = λ told run passes stood fine.
         subst (SomeWereMade run (now work.before)) (same told.world) (some_here run (now work.before) stood);
+    pages = λ told tells name mounts. absurd (no_end why tells);
     settled = λ told refuses name mounts. absurd (unmounted why told refuses name mounts);
   }
 
@@ -79,6 +83,8 @@ module _ (stage : Stage Run) (work : Work) (answer : Status) (kinds : HasKinds s
         still_moments (LeavesAlone ((stage >>= ended).mounts work) (now work.before)) work still tells
         (alone_here ((stage >>= ended).mounts work) (now work.before));
     prints = inr still.prints;
+    disk = still.disk;
+    source = still.source;
   }
 
 -- Where the first of its stages stopped, which mounts no store.

@@ -38,3 +38,6 @@ pub record Answered (promise : Promise) (work : Work) (answer : Status) : Type 0
       EachMoment (LeavesAlone (promise.due.mounts work) (now work.before)) work.before work.after
   -- A print that failed is always the answer.
   pub prints : (answer ≡ status.OutFault) ⊎ (work.counts_after.say_faults ≡ work.counts_before.say_faults)
+  -- So is a fault of the disk, and a fetch that failed: none is passed over.
+  pub disk : (answer ≡ status.DiskFault) ⊎ (work.counts_after.disk_faults ≡ work.counts_before.disk_faults)
+  pub source : (answer ≡ status.SourceFault) ⊎ (work.shelf_faults_after ≡ work.shelf_faults_before)

@@ -13,6 +13,7 @@ use Rattle.dbpl_promise.specs.Runs.{WereMade, IsTied, IsWhole, Leaves, Run, Stoo
 use Rattle.dbpl_promise.specs.Stages.{Never, Stage, ◌>>=◌}
 use Rattle.dbpl_promise.specs.Work.{IsTold, Work}
 use Rattle.dbpl_world.specs.History.{State, now, store_of}
+use Rattle.dbpl_world.specs.Images.{settled}
 
 -- ---- the last stage of a run
 
@@ -62,6 +63,9 @@ pub record EndsRun (stage : Stage Run) (work : Work) (answer : Status) (s : Stat
   -- Unless the disk failed no transaction is half there: before its last sync no other answer comes.
   pub at_rest : IsTold work → (run : Run) → stage.passes work run → StoodFor run (now work.before) →
       answer ≢ status.DiskFault → SomeWereMade run (now work.before) s
+  -- A run that ended or trapped has made sure of the pages of its store.
+  pub pages : IsTold work → TellsOfEnd answer → (name : List ℕ) → stage.mounts work name →
+      (store_of s name).pages ≡ settled (store_before name work).pages.now
   -- What is refused once the store may be mounted, is so only when it was made sure of.
   pub settled : IsTold work → stage.refuses work answer → (name : List ℕ) → stage.mounts work name →
       store_of s name ≡ made_sure (store_before name work)

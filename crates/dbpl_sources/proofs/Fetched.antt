@@ -1,5 +1,5 @@
 -- What the stages of fetching do: each file has one text, or one answer says why there is none.
-use Rattle.std.proofs.Common.{◌≡◌, ◌<◌, ◌≤◌, ◌∙◌, ◌+◌, ◌++◌, ℕ, List, [], ◌∷◌, None, Option, Some, add-one, ap, arith, drop, get_or, inl, inr, length, map, refl, subst, sym, take}
+use Rattle.std.proofs.Common.{◌≡◌, ◌⊎◌, ◌<◌, ◌≤◌, ◌∙◌, ◌+◌, ◌++◌, ℕ, Err, List, [], ◌∷◌, None, Ok, Option, Result, Some, add-one, ap, arith, drop, get_or, inl, inr, length, map, refl, subst, sym, take}
 use Rattle.std.proofs.Math.Seq.{drop-cons}
 use Rattle.std.proofs.lemmas.List.{map-append, take-append-drop, take_all, take_more}
 use Rattle.std.specs.Prelude.{IsSome}
@@ -152,3 +152,17 @@ pub all_passed : {X : Type 0} (name : X → List ℕ) (xs : List X) (i : ℕ) (w
     (all_fetched (map name (take i xs))).passes work texts → (all_fetched (map name xs)).passes work texts
 all_passed name xs i work texts past front =
     subst (λ files. (all_fetched (map name files)).passes work texts) (take_all i xs past) front
+
+-- ---- a fetch that failed
+
+-- it is the answer, or none failed
+pub fetch_answered : {T A : Type 0} (result : Result T Status) (answer : Status) → result ≡ Err answer →
+    (result ≡ Err status.SourceFault) ⊎ A → (answer ≡ status.SourceFault) ⊎ A
+fetch_answered result answer is (inl failed) = inl (let both = sym is ∙ failed in cc)
+fetch_answered result answer is (inr fine) = inr fine
+
+-- behind what was fetched none failed
+pub fetched_well : {T A : Type 0} (result : Result T Status) (value : T) → result ≡ Ok value →
+    (result ≡ Err status.SourceFault) ⊎ A → A
+fetched_well result value is (inl failed) = absurd (let both = sym is ∙ failed in cc)
+fetched_well result value is (inr fine) = fine

@@ -1,5 +1,5 @@
 //! The texts of source files.
-ghost use Rattle.std.specs.Prelude.{◌≡◌, ◌≤◌, length, map, IfErr, IfOk};
+ghost use Rattle.std.specs.Prelude.{◌≡◌, ◌⊎◌, ◌≤◌, length, map, Err, IfErr, IfOk};
 ghost use Rattle.std.specs.List.{All};
 ghost use Rattle.dbpl_promise.specs.Stages.{Stops};
 ghost use Rattle.dbpl_promise.specs.Work.{IsOver, Work};
@@ -18,6 +18,7 @@ pub fn source<S: Shelf>(alloc: Global, shelf: &mut S, file: &str) -> Result<Vec<
     ensures err { (work : Work) → IsOver S.Shelf shelf.old shelf.new work →
         IfErr result (Stops (fetched file.now) work) }
     ensures files { S.files shelf.new ≡ S.files shelf.old }
+    ensures fine { (result ≡ Err Status.SourceFault) ⊎ (S.shelf_faults shelf.new ≡ S.shelf_faults shelf.old) }
     ensures faults { S.shelf_faults shelf.old ≤ S.shelf_faults shelf.new }
 {
     let mut text = Vec::new(alloc);
@@ -44,6 +45,7 @@ pub fn sources<S: Shelf>(
     ensures err { (work : Work) → IsOver S.Shelf shelf.old shelf.new work →
         IfErr result (Stops (all_fetched (map (λ file. file.now) files.now)) work) }
     ensures files { S.files shelf.new ≡ S.files shelf.old }
+    ensures fine { (result ≡ Err Status.SourceFault) ⊎ (S.shelf_faults shelf.new ≡ S.shelf_faults shelf.old) }
     ensures faults { S.shelf_faults shelf.old ≤ S.shelf_faults shelf.new }
 {
     let mut texts = Vec::new(alloc);

@@ -140,3 +140,18 @@ log-refused log_errors.NotStore f opened is from refused = inl is
 log-refused log_errors.Damaged f opened is from refused = inr is
 log-refused log_errors.Disk f opened is from refused = absurd (no-fault f from refused)
 log-refused log_errors.Memory f opened is from refused = absurd (no-want f from refused)
+
+-- ---- faults of the disk
+
+-- none came where the log was opened
+pub opened-fine : {A : Type 0} (opened : Result Opened OpenErr) (log : Opened) → opened ≡ Ok log →
+    (opened ≡ Err log_errors.Disk) ⊎ A → A
+opened-fine opened log is (inl fault) = absurd (let both = sym is ∙ fault in cc)
+opened-fine opened log is (inr fine) = fine
+
+-- one that came is the answer
+pub log-fault : {A : Type 0} (e : OpenErr) (f : StoreErr) (opened : Result Opened OpenErr) → opened ≡ Err e → f ≡ of_log e →
+    (opened ≡ Err log_errors.Disk) ⊎ A → (failed f ≡ failed errors.Disk) ⊎ A
+log-fault e f opened is from (inl fault) =
+    let same : e ≡ log_errors.Disk = (let both = sym is ∙ fault in cc) in inl (ap failed (from ∙ ap of_log same))
+log-fault e f opened is from (inr fine) = inr fine

@@ -2,7 +2,7 @@
 ghost use Rattle.std.specs.Prelude.{◌≡◌, ◌+◌, false, IsTrue, IsSome, length, OnErr, OnOk};
 ghost use Rattle.dbpl_database.specs.Spelling.{database_bytes};
 ghost use Rattle.dbpl_log.specs.Changes.{ChangesLog, with_record};
-ghost use Rattle.dbpl_log.specs.Worlds.{DiskFailed, Meanwhile, log_of};
+ghost use Rattle.dbpl_log.specs.Worlds.{DiskFailed, DiskHeld, Meanwhile, log_of};
 ghost use Rattle.dbpl_store.specs.Stands.{IsEither, LeavesDatabase};
 ghost use Rattle.dbpl_store.specs.Stores.{IsOpen, bound_in, committed_of, database_in, gate_in, is_running, length_in};
 ghost use Rattle.dbpl_world.specs.Counts.{OnlyDiskFaults};
@@ -41,6 +41,7 @@ impl Store {
             length_in self.new ≡ length_in self.old }
         ensures same { W.mounted world.new ≡ W.mounted world.old }
         ensures counts { OnlyDiskFaults (W.counts world.old) (W.counts world.new) }
+        ensures fine { OnOk result (DiskHeld W.World world.old world.new) }
         ensures cause { OnErr result (DiskFailed W.World world.old world.new) }
     {
         self.running = false;

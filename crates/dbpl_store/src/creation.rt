@@ -3,7 +3,7 @@ ghost use Rattle.std.specs.Prelude.{◌≡◌, ◌⊎◌, ℕ, Err, IsSome, IsTr
 ghost use Rattle.dbpl_log.specs.Beginning.{IsForeign, IsFree, begun};
 ghost use Rattle.dbpl_log.specs.Changes.{WritesLog};
 ghost use Rattle.dbpl_log.specs.Records.{HasHead};
-ghost use Rattle.dbpl_log.specs.Worlds.{DiskFailed, Meanwhile, disk_of, log_of, pages_of, synced_of};
+ghost use Rattle.dbpl_log.specs.Worlds.{DiskFailed, DiskHeld, Meanwhile, disk_of, log_of, pages_of, synced_of};
 ghost use Rattle.dbpl_log.specs.declared.create_err.CreateErr.TheVariants as errors;
 ghost use Rattle.dbpl_store.specs.Beginning.{LeavesBegun, MayBecomeEmpty, StandsEmpty};
 ghost use Rattle.dbpl_store.specs.Stands.{LeavesOld};
@@ -46,6 +46,7 @@ pub fn create<W: World>(world: &mut W) -> Result<(), CreateErr>
 
     ensures same { W.mounted world.new ≡ W.mounted world.old }
     ensures counts { OnlyDiskFaults (W.counts world.old) (W.counts world.new) }
+    ensures fine { (result ≡ Err errors.Disk) ⊎ DiskHeld W.World world.old world.new }
     ensures cause { result ≡ Err errors.Disk → DiskFailed W.World world.old world.new }
 {
     dbpl_log::create(world)

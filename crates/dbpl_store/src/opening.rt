@@ -3,7 +3,7 @@ ghost use Rattle.std.specs.Prelude.{◌≡◌, ◌⊎◌, [], Err, IfErr, IfOk, 
 ghost use Rattle.dbpl_log.specs.Changes.{OnlySyncs};
 ghost use Rattle.dbpl_log.specs.Records.{HasHead};
 ghost use Rattle.dbpl_log.specs.Rest.{records_in};
-ghost use Rattle.dbpl_log.specs.Worlds.{DiskFailed, Meanwhile, disk_of, log_of, pages_of, synced_of};
+ghost use Rattle.dbpl_log.specs.Worlds.{DiskFailed, DiskHeld, Meanwhile, disk_of, log_of, pages_of, synced_of};
 ghost use Rattle.dbpl_store.specs.Errors.{of_log};
 ghost use Rattle.dbpl_store.specs.Stands.{LeavesOld, newest as newest_of, stands};
 ghost use Rattle.dbpl_store.specs.Stores.{IsOpen, bound_in, committed_of, database_in, is_running};
@@ -55,6 +55,7 @@ pub fn open<W: World>(alloc: Global, world: &mut W) -> Result<Store, StoreErr>
 
     ensures same { W.mounted world.new ≡ W.mounted world.old }
     ensures counts { OnlyDiskFaults (W.counts world.old) (W.counts world.new) }
+    ensures fine { (result ≡ Err errors.Disk) ⊎ DiskHeld W.World world.old world.new }
     ensures cause { result ≡ Err errors.Disk → DiskFailed W.World world.old world.new }
 {
     match dbpl_log::open(alloc, world) {

@@ -19,14 +19,13 @@ use Rattle.dbpl_promise.specs.Stages.{IsDetermined, IsDue, gives}
 use Rattle.dbpl_promise.specs.Work.{Work}
 use Rattle.dbpl_store.specs.Beginning.{LeavesBegun, MayBecomeEmpty, StandsEmpty}
 use Rattle.dbpl_store.specs.Stands.{LeavesOld, stands}
-use Rattle.dbpl_stored_modes.proofs.RunLaw.{rose_later}
 use Rattle.dbpl_stored_modes.specs.CreateCommand.{EndsCreate, IsTaken, MayCreate, creates, store_made}
 use Rattle.dbpl_stored_modes.specs.Creating.{IsBeingMade, answer_of}
 use Rattle.dbpl_stored_modes.specs.Images.{EachImage}
 use Rattle.dbpl_world.proofs.Moments.{moments_last, moments_weaken}
 use Rattle.dbpl_world.specs.Counts.{Rose}
 use Rattle.dbpl_world.specs.History.{History, Mounted, State, Store, more, now, settled_store, store_of}
-use Rattle.dbpl_world.specs.Images.{IsImage}
+use Rattle.dbpl_world.specs.Images.{IsImage, settled}
 use Rattle.dbpl_world.specs.Moments.{EachMoment, LeavesOnlyAt}
 use Rattle.dbpl_world.specs.declared.counts.Counts.{Counts}
 
@@ -71,6 +70,7 @@ pub record Made (tells : Bool) (mid new : History) (counts_mid counts_new : Coun
   pub moments : IsTrue tells → ((log pages : List ℕ) → IsImage (now mid).disk.log log → IsImage (now mid).disk.pages pages → MayBecomeEmpty log pages) → EachMoment (LeavesBegun (now mid)) mid new
   pub made : IsTrue tells → OnOk result (StandsEmpty (now new))
   pub bytes : IsTrue tells → OnOk result ((now new).disk.log.now ≡ begun (now mid).disk.log.now)
+  pub pages : IsTrue tells → OnOk result ((now new).disk.pages ≡ settled (now mid).disk.pages.now)
   pub writes : IsTrue tells → EachMoment (WritesLog (now mid)) mid new
   pub free : IsTrue tells → OnOk result (IsFree (now mid).disk)
   pub exists : IsTrue tells → result ≡ Err errors.Exists → HasHead (now mid).disk.log.now
@@ -78,6 +78,7 @@ pub record Made (tells : Bool) (mid new : History) (counts_mid counts_new : Coun
   pub settled : IsTrue tells → (result ≡ Err errors.Exists) ⊎ (result ≡ Err errors.Foreign) →
       (now new).disk ≡ settled_store (now mid).disk.log.now (now mid).disk.pages.now
   pub kept : IsTrue tells → (IsFree (now mid).disk → ⊥) → EachMoment (LeavesOld (now mid)) mid new
+  pub fine : (result ≡ Err errors.Disk) ⊎ (counts_new.disk_faults ≡ counts_mid.disk_faults)
   pub cause : result ≡ Err errors.Disk → Rose counts_mid.disk_faults counts_new.disk_faults
 
 on_done : {A : Type 0} (result : Result (Unit {0}) CreateErr) → answer_of result ≡ status.Done → OnOk result A → A
@@ -106,8 +107,8 @@ never_wanting (Err errors.Foreign) e = cc
 never_wanting (Err errors.Disk) e = cc
 
 module _ (name : List ℕ) (work : Work) (mid : History) (counts_mid : Counts) (result : Result (Unit {0}) CreateErr)
-    (mount : IsTrue work.tells → mid ≡ more work.before (Mounted name ∷ [])) (later : work.counts_before.disk_faults ≤ counts_mid.disk_faults)
-    (prints : work.counts_after.say_faults ≡ work.counts_before.say_faults)
+    (mount : IsTrue work.tells → mid ≡ more work.before (Mounted name ∷ [])) (disk_same : counts_mid.disk_faults ≡ work.counts_before.disk_faults)
+    (prints : work.counts_after.say_faults ≡ work.counts_before.say_faults) (source : work.shelf_faults_after ≡ work.shelf_faults_before)
     (run : Made work.tells mid work.after counts_mid work.counts_after result) where
   disk : IsTrue work.tells → (now mid).disk ≡ store_before name work
   disk told = mounted_disk name work.before mid (mount told)
@@ -138,7 +139,16 @@ module _ (name : List ℕ) (work : Work) (mid : History) (counts_mid : Counts) (
       inl (inr (tt {0}, (λ told. subst IsFree (disk told) (on_done result (ap answer_of e) (run.free told))), refl))
   due (Err errors.Exists) e = inl (inl (inl (λ told. subst (λ (d : Store). HasHead d.log.now) (disk told) (run.exists told e))))
   due (Err errors.Foreign) e = inl (inl (inl (λ told. subst IsForeign (disk told) (run.foreign told e))))
-  due (Err errors.Disk) e = inr (inl (inl (rose_later _ _ _ later (run.cause e))))
+  due (Err errors.Disk) e = inr (inl (inl (subst (λ (n : ℕ). Rose n work.counts_after.disk_faults) disk_same (run.cause e))))
+
+  -- a fault of the disk is answered
+  disk_well : (answer_of result ≡ status.DiskFault) ⊎ (work.counts_after.disk_faults ≡ work.counts_before.disk_faults)
+  disk_well = by_result run.fine
+    where
+      by_result : (result ≡ Err errors.Disk) ⊎ (work.counts_after.disk_faults ≡ counts_mid.disk_faults) →
+          (answer_of result ≡ status.DiskFault) ⊎ (work.counts_after.disk_faults ≡ work.counts_before.disk_faults)
+      by_result (inl e) = inl (ap answer_of e)
+      by_result (inr fine) = inr (fine ∙ disk_same)
 
   -- ---- each moment
 
@@ -224,12 +234,15 @@ module _ (name : List ℕ) (work : Work) (mid : History) (counts_mid : Counts) (
     bytes = λ e.
         ap (λ (d : Store). d.log.now) (there told)
         ∙ (on_done result e (run.bytes told) ∙ ap (λ (d : Store). begun d.log.now) (disk told));
+    pages = λ e.
+        ap (λ (d : Store). d.pages) (there told)
+        ∙ (on_done result e (run.pages told) ∙ ap (λ (d : Store). settled d.pages.now) (disk told));
     settled = λ which.
         there told ∙ (run.settled told (refused which) ∙ ap (λ (d : Store). settled_store d.log.now d.pages.now) (disk told));
   }
 
   created : Answered (creates name) work (answer_of result)
-  created = record { answers = due result refl; moments = moments; end = ends; only = only; prints = inr prints }
+  created = record { answers = due result refl; moments = moments; end = ends; only = only; prints = inr prints; disk = disk_well; source = inr source }
 
   pub created_as : (answer : Status) → answer ≡ answer_of result → Answered (creates name) work answer
   created_as answer is = subst (Answered (creates name) work) (sym is) created
@@ -246,7 +259,7 @@ made_unnoted mid after writes name before mount =
 abbrev pub IsUnmounted : Work → Status → Type 0
 IsUnmounted work answer = ((answer ≡ status.DiskFault) × Rose work.counts_before.disk_faults work.counts_after.disk_faults) ⊎ (answer ≡ status.Memory)
 
-module _ (name : List ℕ) (work : Work) (answer : Status) (still : IsStill work) where
+module _ (name : List ℕ) (work : Work) (answer : Status) (still : IsStill work answer) where
   fault : IsUnmounted work answer →
       IsDue (creates name).due work answer ⊎ ((creates name).due.fails work answer ⊎ (answer ≡ status.Memory))
   fault (inl why) =
@@ -274,12 +287,15 @@ module _ (name : List ℕ) (work : Work) (answer : Status) (still : IsStill work
     end = λ told. record {
       made = λ e. absurd (not_that why status.Done (λ d. cc) (λ d. cc) e);
       bytes = λ e. absurd (not_that why status.Done (λ d. cc) (λ d. cc) e);
+      pages = λ e. absurd (not_that why status.Done (λ d. cc) (λ d. cc) e);
       settled = λ which. absurd (neither why which);
     };
     only = λ told.
         still_moments (LeavesAlone ((creates name).due.mounts work) (now work.before)) work still told
         (alone_here ((creates name).due.mounts work) (now work.before));
     prints = inr still.prints;
+    disk = still.disk;
+    source = still.source;
   }
 
 -- making a store is never answered as bad words

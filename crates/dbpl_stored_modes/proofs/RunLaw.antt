@@ -40,17 +40,13 @@ use Rattle.dbpl_value.specs.declared.bound.Bound.{Bound}
 use Rattle.dbpl_world.proofs.Moments.{moments_last, moments_weaken}
 use Rattle.dbpl_world.specs.Counts.{Rose}
 use Rattle.dbpl_world.specs.History.{History, Mounted, State, Store, more, now, settled_store, store_of}
-use Rattle.dbpl_world.specs.Images.{IsImage}
+use Rattle.dbpl_world.specs.Images.{IsImage, settled}
 use Rattle.dbpl_world.specs.Moments.{EachMoment}
 use Rattle.dbpl_world.specs.declared.counts.Counts.{Counts}
 
 -- a name that was compared with `-`
 pub named_store : (name : List ℕ) → false ≡ bytes_eq name no_store → name ≢ no_store
 named_store name differs e = let same : false ≡ true = subst (λ (other : List ℕ). false ≡ bytes_eq other no_store) e differs in absurd (cc)
-
--- a count that has risen behind another has risen
-pub rose_later : (old mid new : ℕ) → old ≤ mid → Rose mid new → Rose old new
-rose_later old mid new later rose = omega (arith, later, rose)
 
 -- ---- what a run over the mounted store says
 
@@ -73,10 +69,14 @@ pub record RanMounted (stored : StoredProgram) (tells : Bool) (mid new : History
   pub differs_where : IsTrue tells → (database : List Bound) → ran.ReadsAs database (now mid) → Differs stored.relation database →
       (result ≡ Err errors.SchemaDiffers) ⊎ ((result ≡ Err errors.DiskFault) ⊎ (result ≡ Err errors.Memory))
   pub disk_fault : result ≡ Err errors.DiskFault → Rose counts_mid.disk_faults counts_new.disk_faults
+  pub disk_fault_where : (result ≡ Err errors.DiskFault) ⊎ (counts_new.disk_faults ≡ counts_mid.disk_faults)
   pub out_fault : result ≡ Err errors.OutFault → Rose counts_mid.say_faults counts_new.say_faults
   pub out_fault_where : (result ≡ Err errors.OutFault) ⊎ (counts_new.say_faults ≡ counts_mid.say_faults)
   pub at_rest : IsTrue tells → (database bound : List Bound) → StandsFor database (now mid) → Binds stored.relation database bound →
       result ≢ Err errors.DiskFault → made.HasMadeSome (events_of stored bound (now mid).input) database (now mid) (now new)
+  pub pages : IsTrue tells → OnOk result ((now new).disk.pages ≡ settled (now mid).disk.pages.now)
+  pub pages_trapped : IsTrue tells → (trap : Trap) → result ≡ Err (errors.Trapped trap) →
+      (now new).disk.pages ≡ settled (now mid).disk.pages.now
   pub settled : IsTrue tells → IfErr result (λ why. IsRefusal why →
       (now new).disk ≡ settled_store (now mid).disk.log.now (now mid).disk.pages.now)
   pub refused : IsTrue tells → IfErr result (λ why. IsRefusal why → EachMoment (LeavesOld (now mid)) mid new)
@@ -131,7 +131,8 @@ whole_left stored database bound input binds =
 
 module _ (store : List ℕ) (stored : StoredProgram) (work : Work) (mid : History) (counts_mid : Counts) (result : Result (Unit {0}) StopErr) (answer : Status)
     (mount : IsTrue work.tells → mid ≡ more work.before (Mounted store ∷ []))
-    (disk_later : work.counts_before.disk_faults ≤ counts_mid.disk_faults) (say_same : counts_mid.say_faults ≡ work.counts_before.say_faults)
+    (disk_same : counts_mid.disk_faults ≡ work.counts_before.disk_faults) (say_same : counts_mid.say_faults ≡ work.counts_before.say_faults)
+    (source : work.shelf_faults_after ≡ work.shelf_faults_before)
     (run : RanMounted stored work.tells mid work.after counts_mid work.counts_after result) (is : TellsOfRun stored result answer) where
   -- the mounted store is the one of that name
   disk : IsTrue work.tells → (now mid).disk ≡ store_before store work
@@ -265,7 +266,7 @@ module _ (store : List ℕ) (stored : StoredProgram) (work : Work) (mid : Histor
       )))))
   due (Err errors.SchemaDiffers) e (inr told) = inr (inr told)
   due (Err errors.DiskFault) e told =
-      subst IsAnswer (sym told) (inr (inl (inl (inl (rose_later _ _ _ disk_later (run.disk_fault e))))))
+      subst IsAnswer (sym told) (inr (inl (inl (inl (subst (λ (n : ℕ). Rose n work.counts_after.disk_faults) disk_same (run.disk_fault e))))))
   due (Err errors.OutFault) e told =
       let over = over_bound e in
       subst IsAnswer (sym told) (inr (inl (inr (
@@ -282,6 +283,14 @@ module _ (store : List ℕ) (stored : StoredProgram) (work : Work) (mid : Histor
           (answer ≡ status.OutFault) ⊎ (work.counts_after.say_faults ≡ work.counts_before.say_faults)
       by_result (inl e) = inl (subst (λ r. TellsOfRun stored r answer) e is)
       by_result (inr fine) = inr (fine ∙ say_same)
+
+  disk_well : (answer ≡ status.DiskFault) ⊎ (work.counts_after.disk_faults ≡ work.counts_before.disk_faults)
+  disk_well = by_result run.disk_fault_where
+    where
+      by_result : (result ≡ Err errors.DiskFault) ⊎ (work.counts_after.disk_faults ≡ counts_mid.disk_faults) →
+          (answer ≡ status.DiskFault) ⊎ (work.counts_after.disk_faults ≡ work.counts_before.disk_faults)
+      by_result (inl e) = inl (subst (λ r. TellsOfRun stored r answer) e is)
+      by_result (inr fine) = inr (fine ∙ disk_same)
 
   -- ---- each moment
 
@@ -451,8 +460,19 @@ module _ (store : List ℕ) (stored : StoredProgram) (work : Work) (mid : Histor
             (some.has.stored log pages log_left pages_left));
       }
 
-  settled : IsTrue work.tells → (over_store store stored).refuses work answer → store_of (now work.after) store ≡ made_sure (store_before store work)
-  settled told refuses =
+  synced_pages : IsTrue work.tells → (a : Status) → EndsSo result a → TellsOfEnd a →
+      (now work.after).disk.pages ≡ settled (now mid).disk.pages.now
+  synced_pages told status.Done ok ends = on_ok result ok (run.pages told)
+  synced_pages told (status.Trapped kind place) e ends = run.pages_trapped told (record { kind = kind; place = place }) e
+  synced_pages told _ so ends = absurd ends
+
+  pages : IsTrue work.tells → TellsOfEnd answer → (store_of (now work.after) store).pages ≡ settled (store_before store work).pages.now
+  pages told ends =
+      ap (λ (d : Store). d.pages) (stands_there store (now work.before) (now work.after) (since told (now work.after) (changes told).others))
+      ∙ (synced_pages told answer (ends_so stored result answer is) ends ∙ ap (λ (d : Store). settled d.pages.now) (disk told))
+
+  refused_settled : IsTrue work.tells → (over_store store stored).refuses work answer → store_of (now work.after) store ≡ made_sure (store_before store work)
+  refused_settled told refuses =
       stands_there store (now work.before) (now work.after) (since told (now work.after) (changes told).others)
       ∙ (on_refusal stored result answer is (refusal_kind answer ((over_kinds store stored).refuses work answer refuses)) (run.settled told)
       ∙ ap (λ (d : Store). settled_store d.log.now d.pages.now) (disk told))
@@ -467,13 +487,16 @@ module _ (store : List ℕ) (stored : StoredProgram) (work : Work) (mid : Histor
         let found = found_over store stored work asked passes_with in
         subst (λ (r : Run). SomeWereMade r (now work.before) (now work.after)) (sym found.is)
         (some_made told.world found.database found.bound found.binds (subst (λ (r : Run). StoodFor r (now work.before)) found.is stood) fine);
+    pages = λ told of_end name mounts.
+        subst (λ (n : List ℕ). (store_of (now work.after) n).pages ≡ settled (store_before n work).pages.now)
+        (sym (over_mounts store stored work name mounts)) (pages told.world of_end);
     settled = λ told refuses name mounts.
         subst (λ (n : List ℕ). store_of (now work.after) n ≡ made_sure (store_before n work)) (sym (over_mounts store stored work name mounts))
-        (settled told.world refuses);
+        (refused_settled told.world refuses);
   }
 
   pub ran_over : Answered (running (over_store store stored)) work answer
-  ran_over = record { answers = due result refl is; moments = moments; end = ends; only = only; prints = printed_well }
+  ran_over = record { answers = due result refl is; moments = moments; end = ends; only = only; prints = printed_well; disk = disk_well; source = inr source }
 
 -- nothing was noted since before the store was mounted
 pub ran_unnoted : (mid after : History) → EachMoment (ChangesStore (now mid)) mid after → (name : List ℕ) (before : History) →

@@ -233,7 +233,7 @@ module _ (store schema program : List ℕ) (work : Work) where
       (λ stored passes. program_determined store stored work told.world)) steady_run told.world
 
   -- stopped by the files, with nothing done
-  pub unread : (answer : Status) → Stops (reads_program schema program) work answer → IsStill work →
+  pub unread : (answer : Status) → Stops (reads_program schema program) work answer → IsStill work answer →
       Answered (running (runs_over store schema program)) work answer
   unread answer stops still =
       stopped (runs_over store schema program) work answer over_all_kinds still
@@ -249,7 +249,7 @@ module _ (store schema program : List ℕ) (work : Work) where
 
 module _ (store : List ℕ) (stored : StoredProgram) (work : Work) where
   -- a name that is of no store
-  pub unnamed : store ≡ no_store → IsStill work → Answered (running (runs_program store stored)) work status.NotStore
+  pub unnamed : store ≡ no_store → IsStill work status.NotStore → Answered (running (runs_program store stored)) work status.NotStore
   unnamed is still =
       stopped (runs_program store stored) work status.NotStore (program_kinds store stored) still
       (stops_in_front (named store) (λ _. over_store store stored) work status.NotStore (λ name never. never)
@@ -262,7 +262,7 @@ module _ (store : List ℕ) (stored : StoredProgram) (work : Work) where
       (λ name never. never) did
 
   -- a store that could not be mounted
-  pub unmounted : (answer : Status) → (opened store).fails work answer ⊎ (answer ≡ status.Memory) → IsStill work →
+  pub unmounted : (answer : Status) → (opened store).fails work answer ⊎ (answer ≡ status.Memory) → IsStill work answer →
       Answered (running (over_store store stored)) work answer
   unmounted answer why still = stopped (over_store store stored) work answer (over_kinds store stored) still (by_why why)
     where

@@ -14,6 +14,7 @@ use Rattle.dbpl_store.specs.Beginning.{MayBecomeEmpty}
 use Rattle.dbpl_stored_modes.specs.Creating.{IsBeingMade}
 use Rattle.dbpl_stored_modes.specs.Images.{EachImage, StandsThere}
 use Rattle.dbpl_world.specs.History.{State, now, store_of}
+use Rattle.dbpl_world.specs.Images.{settled}
 use Rattle.dbpl_world.specs.Moments.{LeavesOnlyAt}
 
 -- there is a store of this name, or files of something else
@@ -42,9 +43,10 @@ pub record MayCreate (name : List ℕ) (work : Work) (answer : Status) (s : Stat
 
 -- THE store at the end.
 pub record EndsCreate (name : List ℕ) (work : Work) (answer : Status) (s : State) : Type 0 where
-  -- After Done the empty one is there, with the bytes of its head.
+  -- After Done the empty one is there, with the bytes of its head, and its pages are on the disk.
   pub made : answer ≡ status.Done → StandsThere name s []
   pub bytes : answer ≡ status.Done → (store_of s name).log.now ≡ begun (store_before name work).log.now
+  pub pages : answer ≡ status.Done → (store_of s name).pages ≡ settled (store_before name work).pages.now
   -- What is refused was made sure of first.
   pub settled : (answer ≡ status.Exists) ⊎ (answer ≡ status.Foreign) →
       store_of s name ≡ made_sure (store_before name work)

@@ -15,8 +15,8 @@ use std::alloc::Global;
 
 /// Makes an empty store of this name.
 pub fn create_store<W: World>(alloc: Global, store: &str, world: &mut W) -> Status
-    ensures created { (files : Option Files) (faults_before faults_after : ℕ) →
-        Answered (creates store.now) (work_in W.World files faults_before faults_after world.old world.new) result }
+    ensures created { (files : Option Files) (faults : ℕ) →
+        Answered (creates store.now) (work_in W.World files faults faults world.old world.new) result }
     ensures unnoted { IsTrue W.tells → (now (W.history world.new)).noted ≡ (now (W.history world.old)).noted }
     ensures counts { OnlyDiskFaults (W.counts world.old) (W.counts world.new) }
 {

@@ -1,5 +1,5 @@
 //! The command that runs two files over a store.
-ghost use Rattle.std.specs.Prelude.{◌≡◌, ◌≤◌, length, IfErr, IfOk, IsTrue};
+ghost use Rattle.std.specs.Prelude.{◌≡◌, ◌⊎◌, ◌≤◌, length, Err, IfErr, IfOk, IsTrue};
 ghost use Rattle.dbpl_stored_program.specs.Programs.{is_small_program};
 ghost use Rattle.dbpl_stored_form.specs.Texts.{IsStored};
 ghost use Rattle.dbpl_stored_modes.specs.Reading.{AreRefused};
@@ -56,6 +56,7 @@ fn program_in<S: Shelf>(
     ensures err { (work : Work) → IsOver S.Shelf shelf.old shelf.new work →
         IfErr result (Stops (reads_program schema.now program.now) work) }
     ensures files { S.files shelf.new ≡ S.files shelf.old }
+    ensures fine { (result ≡ Err Status.SourceFault) ⊎ (S.shelf_faults shelf.new ≡ S.shelf_faults shelf.old) }
     ensures faults { S.shelf_faults shelf.old ≤ S.shelf_faults shelf.new }
 {
     let texts = sources(alloc, shelf, &[schema, program])?;

@@ -25,9 +25,9 @@ pub fn run_over<W: World>(
     world: &mut W,
 ) -> Status
     requires small { IsTrue (is_small_program program.now) }
-    ensures runs { (files : Option Files) (faults_before faults_after : ℕ) →
+    ensures runs { (files : Option Files) (faults : ℕ) →
         Answered (running (runs_program store.now program.now))
-        (work_in W.World files faults_before faults_after world.old world.new) result }
+        (work_in W.World files faults faults world.old world.new) result }
     ensures unnoted { IsTrue W.tells → (now (W.history world.new)).noted ≡ (now (W.history world.old)).noted }
     ensures counts { OnlyRunFaults (W.counts world.old) (W.counts world.new) }
 {

@@ -8,8 +8,8 @@ use Rattle.dbpl_stored_run.specs.Headline.{HasMade, HasMadePrefix, HasMadeSome, 
 use Rattle.dbpl_stored_run.specs.Leaving.{ChangesStore}
 use Rattle.dbpl_value.specs.declared.bound.Bound.{Bound}
 use Rattle.dbpl_world.proofs.Moments.{moments_last, moments_start, moments_then, moments_weaken}
-use Rattle.dbpl_world.specs.History.{History, State, now}
-use Rattle.dbpl_world.specs.Images.{PartState}
+use Rattle.dbpl_world.specs.History.{History, State, Store, now, settled_store}
+use Rattle.dbpl_world.specs.Images.{PartState, settled}
 use Rattle.dbpl_world.specs.Moments.{EachMoment}
 
 -- ---- one list behind the other
@@ -227,3 +227,16 @@ only-then h0 h1 h2 first second =
     moments_then (ChangesStore (now h0)) h0 h1 h2 first
     (moments_weaken (ChangesStore (now h1)) (ChangesStore (now h0)) h1 h2
     (λ s changes. changes-since (now h0) (now h1) s here changes) second)
+
+-- pages that were synced are so behind what syncs them at most
+pub pages-stay :
+    (h0 h1 h2 : History) → (now h1).disk ≡ settled_store (now h0).disk.log.now (now h0).disk.pages.now →
+    EachMoment (ChangesStore (now h1)) h1 h2 → (now h2).disk.pages ≡ settled (now h0).disk.pages.now
+pages-stay h0 h1 h2 synced run = by_sync (moments_last (ChangesStore (now h1)) h1 h2 run).pages
+  where
+    first : (now h1).disk.pages ≡ settled (now h0).disk.pages.now
+    first = ap (λ (d : Store). d.pages) synced
+
+    by_sync : IsSynced (now h1).disk.pages (now h2).disk.pages → (now h2).disk.pages ≡ settled (now h0).disk.pages.now
+    by_sync (inl same) = same ∙ first
+    by_sync (inr again) = again ∙ ap (λ (part : PartState). settled part.now) first

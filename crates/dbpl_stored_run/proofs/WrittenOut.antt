@@ -5,8 +5,10 @@ use Rattle.dbpl_log.specs.Changes.{ChangesLog}
 use Rattle.dbpl_store.specs.Stands.{IsEither, LeavesDatabase}
 use Rattle.dbpl_store.specs.Stores.{IsOpen}
 use Rattle.dbpl_store.specs.declared.store.Store.{Store}
+use Rattle.dbpl_store.specs.declared.store_err.StoreErr.{StoreErr}
+use Rattle.dbpl_store.specs.declared.store_err.StoreErr.TheVariants as store_errors
 use Rattle.dbpl_stored_run.proofs.Answering.{err-inside}
-use Rattle.dbpl_stored_run.specs.Errors.{IsWrittenOut, of_body}
+use Rattle.dbpl_stored_run.specs.Errors.{IsWrittenOut, of_body, of_store}
 use Rattle.dbpl_stored_run.specs.Headline.{StandsFor}
 use Rattle.dbpl_stored_run.specs.declared.body_err.BodyErr.{BodyErr}
 use Rattle.dbpl_stored_run.specs.declared.body_err.BodyErr.TheVariants as body_errors
@@ -15,7 +17,7 @@ use Rattle.dbpl_stored_run.specs.declared.stop_err.StopErr.TheVariants as errors
 use Rattle.dbpl_value.specs.declared.bound.Bound.{Bound}
 use Rattle.dbpl_world.proofs.CountLaws.{rose_since}
 use Rattle.dbpl_world.proofs.Moments.{moments_start}
-use Rattle.dbpl_world.specs.Counts.{OnlyDiskFaults, Rose}
+use Rattle.dbpl_world.specs.Counts.{OnlyDiskFaults, OnlySayFaults, Rose}
 use Rattle.dbpl_world.specs.History.{History, now}
 use Rattle.dbpl_world.specs.Moments.{EachMoment}
 use Rattle.dbpl_world.specs.declared.counts.Counts.{Counts}
@@ -94,26 +96,45 @@ pub print-where :
 print-where (Ok value) why fine = inr fine
 print-where {T = T} (Err error) why fine = inl (ap {B = Result T BodyErr} (λ (e : BodyErr). Err e) why)
 
--- it didn't fail where the end was reached
+-- no such fault came where the end was reached
 pub fine-where :
-    {T A : Type 0} (answer : Result T BodyErr) (value : T) → answer ≡ Ok value → (answer ≡ Err body_errors.OutFault) ⊎ A → A
+    {T E A : Type 0} {fault : E} (answer : Result T E) (value : T) → answer ≡ Ok value → (answer ≡ Err fault) ⊎ A → A
 fine-where answer value is (inl failed) = absurd (let both = sym is ∙ failed in cc)
 fine-where answer value is (inr fine) = fine
 
 -- since an earlier moment
 pub fine-since :
-    {T : Type 0} (answer : Result T BodyErr) (old mid new : ℕ) → mid ≡ old →
-    (answer ≡ Err body_errors.OutFault) ⊎ (new ≡ mid) → (answer ≡ Err body_errors.OutFault) ⊎ (new ≡ old)
+    {T E : Type 0} {fault : E} (answer : Result T E) (old mid new : ℕ) → mid ≡ old →
+    (answer ≡ Err fault) ⊎ (new ≡ mid) → (answer ≡ Err fault) ⊎ (new ≡ old)
 fine-since answer old mid new before (inl failed) = inl failed
 fine-since answer old mid new before (inr fine) = inr (fine ∙ before)
 
 -- the same of the run, by its body
 pub run-where :
-    {T X A : Type 0} (answer : Result T StopErr) (ran : Result X BodyErr) (why : BodyErr) → answer ≡ Err (of_body why) →
-    ran ≡ Err why → (ran ≡ Err body_errors.OutFault) ⊎ A → (answer ≡ Err errors.OutFault) ⊎ A
-run-where {T = T} answer ran why is was (inl failed) =
-    inl (is ∙ ap {B = Result T StopErr} (λ (w : BodyErr). Err (of_body w)) (err-inside ran why body_errors.OutFault was failed))
-run-where answer ran why is was (inr fine) = inr fine
+    {T X A : Type 0} (answer : Result T StopErr) (ran : Result X BodyErr) (why fault : BodyErr) → answer ≡ Err (of_body why) →
+    ran ≡ Err why → (ran ≡ Err fault) ⊎ A → (answer ≡ Err (of_body fault)) ⊎ A
+run-where {T = T} answer ran why fault is was (inl failed) =
+    inl (is ∙ ap {B = Result T StopErr} (λ (w : BodyErr). Err (of_body w)) (err-inside ran why fault was failed))
+run-where answer ran why fault is was (inr fine) = inr fine
+
+-- the same of a run that didn't begin, by the opening of its store
+pub open-where :
+    {T X A : Type 0} (answer : Result T StopErr) (opened : Result X StoreErr) (why : StoreErr) → answer ≡ Err (of_store why) →
+    opened ≡ Err why → (opened ≡ Err store_errors.Disk) ⊎ A → (answer ≡ Err errors.DiskFault) ⊎ A
+open-where {T = T} answer opened why is was (inl failed) =
+    inl (is ∙ ap {B = Result T StopErr} (λ (w : StoreErr). Err (of_store w)) (err-inside opened why store_errors.Disk was failed))
+open-where answer opened why is was (inr fine) = inr fine
 
 pub disk-fine : (old new : Counts) → OnlyDiskFaults old new → new.say_faults ≡ old.say_faults
 disk-fine old new only = ap (λ (counts : Counts). counts.say_faults) only.others
+
+pub say-held : (old new : Counts) → OnlySayFaults old new → new.disk_faults ≡ old.disk_faults
+say-held old new only = ap (λ (counts : Counts). counts.disk_faults) only.others
+
+-- a fault of the disk stays the answer of a body, and it is written out without one
+pub end-held :
+    (went answer : Result (Unit {0}) BodyErr) (first old new : ℕ) →
+    (went ≡ Err body_errors.DiskFault → answer ≡ Err body_errors.DiskFault) → new ≡ old →
+    (went ≡ Err body_errors.DiskFault) ⊎ (old ≡ first) → (answer ≡ Err body_errors.DiskFault) ⊎ (new ≡ first)
+end-held went answer first old new stays held (inl failed) = inl (stays failed)
+end-held went answer first old new stays held (inr before) = inr (held ∙ before)

@@ -6,7 +6,7 @@ ghost use Rattle.dbpl_stored_program.specs.Whole.{events_of, whole_run};
 ghost use Rattle.dbpl_core.specs.declared.trap.Trap.{Trap as AnyTrap};
 ghost use Rattle.dbpl_value.specs.Binding.{Binds, Differs};
 ghost use Rattle.dbpl_log.specs.Records.{HasHead};
-ghost use Rattle.dbpl_log.specs.Worlds.{DiskFailed, Meanwhile, disk_of, log_of, pages_of, synced_of};
+ghost use Rattle.dbpl_log.specs.Worlds.{DiskFailed, DiskHeld, Meanwhile, disk_of, log_of, pages_of, synced_of};
 ghost use Rattle.dbpl_store.specs.Stands.{LeavesOld, stands};
 ghost use Rattle.dbpl_stored_run.specs.Between.{Between, SayFailed, input_of};
 ghost use Rattle.dbpl_stored_run.specs.Answers.{HasOther, HasRun, IsDue, IsRefusal, ReadsAs};
@@ -15,6 +15,7 @@ ghost use Rattle.dbpl_stored_run.specs.Leaving.{ChangesStore, OnlyRunFaults};
 ghost use Rattle.dbpl_stored_run.specs.declared.stop_err.StopErr.TheVariants as errors;
 ghost use Rattle.dbpl_value.specs.declared.bound.Bound.{Bound};
 ghost use Rattle.dbpl_world.specs.History.{now};
+ghost use Rattle.dbpl_world.specs.Images.{settled};
 
 use crate::StopErr;
 use crate::statements::run_body;
@@ -71,6 +72,7 @@ pub fn run_stored<W: World>(
         Differs program.now.relation database →
         (result ≡ Err errors.SchemaDiffers) ⊎ ((result ≡ Err errors.DiskFault) ⊎ (result ≡ Err errors.Memory)) }
     ensures disk_fault { result ≡ Err errors.DiskFault → DiskFailed W.World world.old world.new }
+    ensures disk_fault_where { (result ≡ Err errors.DiskFault) ⊎ DiskHeld W.World world.old world.new }
     ensures out_fault { result ≡ Err errors.OutFault → SayFailed W.World world.old world.new }
     ensures out_fault_where { (result ≡ Err errors.OutFault)
         ⊎ ((W.counts world.new).say_faults ≡ (W.counts world.old).say_faults) }
@@ -81,6 +83,12 @@ pub fn run_stored<W: World>(
         Binds program.now.relation database bound → result ≢ Err errors.DiskFault →
         Between W.World (HasMadeSome (events_of program.now bound (input_of W.World world.old)) database)
         world.old world.new }
+
+    // A run that ends or traps has synced the pages, with the bytes that stood there.
+    ensures pages { IsTrue W.tells →
+        OnOk result ((disk_of W.World world.new).pages ≡ settled (pages_of W.World world.old)) }
+    ensures pages_trapped { IsTrue W.tells → (trap : AnyTrap) → result ≡ Err (errors.Trapped trap) →
+        (disk_of W.World world.new).pages ≡ settled (pages_of W.World world.old) }
 
     // What is left as it was. A refusal comes once both parts are synced.
     ensures settled { IsTrue W.tells →

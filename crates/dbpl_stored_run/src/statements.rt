@@ -4,7 +4,7 @@ ghost use Rattle.dbpl_core.specs.Events.{last};
 ghost use Rattle.dbpl_stored_program.specs.Meaning.{Ended, Trapped};
 ghost use Rattle.dbpl_stored_program.specs.Programs.{is_small_program};
 ghost use Rattle.dbpl_core.specs.declared.trap.Trap.{Trap as AnyTrap};
-ghost use Rattle.dbpl_log.specs.Worlds.{DiskFailed, Meanwhile};
+ghost use Rattle.dbpl_log.specs.Worlds.{DiskFailed, DiskHeld, Meanwhile};
 ghost use Rattle.dbpl_store.specs.Stores.{IsBoundTo, IsOpen, committed_of, database_in, is_running};
 ghost use Rattle.dbpl_stored_run.specs.Between.{Between, SayFailed};
 ghost use Rattle.dbpl_stored_run.specs.Headline.{HasMade, HasMadeSome, LeavesTied};
@@ -52,6 +52,7 @@ pub(crate) fn run_body<W: World>(
     ensures same { W.mounted world.new ≡ W.mounted world.old }
     ensures counts { OnlyRunFaults (W.counts world.old) (W.counts world.new) }
     ensures disk_fault { result ≡ Err BodyErr.DiskFault → DiskFailed W.World world.old world.new }
+    ensures disk_fault_where { (result ≡ Err BodyErr.DiskFault) ⊎ DiskHeld W.World world.old world.new }
     ensures out_fault { result ≡ Err BodyErr.OutFault → SayFailed W.World world.old world.new }
     ensures out_fault_where { (result ≡ Err BodyErr.OutFault)
         ⊎ ((W.counts world.new).say_faults ≡ (W.counts world.old).say_faults) }
@@ -91,6 +92,7 @@ fn act_all<W: World>(
     ensures same { W.mounted world.new ≡ W.mounted world.old }
     ensures counts { OnlyRunFaults (W.counts world.old) (W.counts world.new) }
     ensures disk_fault { result ≡ Err BodyErr.DiskFault → DiskFailed W.World world.old world.new }
+    ensures disk_fault_where { (result ≡ Err BodyErr.DiskFault) ⊎ DiskHeld W.World world.old world.new }
     ensures out_fault { result ≡ Err BodyErr.OutFault → SayFailed W.World world.old world.new }
     ensures out_fault_where { (result ≡ Err BodyErr.OutFault)
         ⊎ ((W.counts world.new).say_faults ≡ (W.counts world.old).say_faults) }
@@ -144,6 +146,7 @@ fn act<W: World>(
     ensures same { W.mounted world.new ≡ W.mounted world.old }
     ensures counts { OnlyRunFaults (W.counts world.old) (W.counts world.new) }
     ensures disk_fault { result ≡ Err BodyErr.DiskFault → DiskFailed W.World world.old world.new }
+    ensures disk_fault_where { (result ≡ Err BodyErr.DiskFault) ⊎ DiskHeld W.World world.old world.new }
     ensures out_fault { result ≡ Err BodyErr.OutFault → SayFailed W.World world.old world.new }
     ensures out_fault_where { (result ≡ Err BodyErr.OutFault)
         ⊎ ((W.counts world.new).say_faults ≡ (W.counts world.old).say_faults) }

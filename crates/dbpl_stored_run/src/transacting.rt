@@ -7,7 +7,7 @@ ghost use Rattle.dbpl_stored_program.specs.Whole.{transacted_by};
 ghost use Rattle.dbpl_stored_program.specs.declared.action.Action.TheVariants.{Transact};
 ghost use Rattle.dbpl_core.specs.declared.trap.Trap.{Trap as AnyTrap};
 ghost use Rattle.dbpl_log.specs.Changes.{ChangesLog};
-ghost use Rattle.dbpl_log.specs.Worlds.{DiskFailed, Meanwhile};
+ghost use Rattle.dbpl_log.specs.Worlds.{DiskFailed, DiskHeld, Meanwhile};
 ghost use Rattle.dbpl_store.specs.Stands.{IsEither, LeavesDatabase};
 ghost use Rattle.dbpl_store.specs.Stores.{IsBoundTo, IsOpen, bound_in, committed_of, database_in, is_running};
 ghost use Rattle.dbpl_stored_run.specs.Between.{Between, SayFailed};
@@ -67,6 +67,7 @@ pub(crate) fn transact<W: World>(
     ensures same { W.mounted world.new ≡ W.mounted world.old }
     ensures counts { OnlyRunFaults (W.counts world.old) (W.counts world.new) }
     ensures disk_fault { result ≡ Err BodyErr.DiskFault → DiskFailed W.World world.old world.new }
+    ensures disk_fault_where { (result ≡ Err BodyErr.DiskFault) ⊎ DiskHeld W.World world.old world.new }
     ensures out_fault { result ≡ Err BodyErr.OutFault → SayFailed W.World world.old world.new }
     ensures out_fault_where { (result ≡ Err BodyErr.OutFault)
         ⊎ ((W.counts world.new).say_faults ≡ (W.counts world.old).say_faults) }
@@ -97,6 +98,7 @@ fn commit<W: World>(store: &mut Store, world: &mut W) -> Result<(), BodyErr>
         world.old world.new }
     ensures untrapped { (trap : AnyTrap) → result ≢ Err (BodyErr.Trapped trap) }
     ensures disk_fault { result ≡ Err BodyErr.DiskFault → DiskFailed W.World world.old world.new }
+    ensures disk_fault_where { (result ≡ Err BodyErr.DiskFault) ⊎ DiskHeld W.World world.old world.new }
     ensures out_fault { result ≡ Err BodyErr.OutFault → SayFailed W.World world.old world.new }
     ensures out_fault_where { (result ≡ Err BodyErr.OutFault)
         ⊎ ((W.counts world.new).say_faults ≡ (W.counts world.old).say_faults) }

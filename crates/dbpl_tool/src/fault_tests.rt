@@ -1,5 +1,6 @@
-// Commands over a store in memory of which calls fail: no call is made again, no fault is passed over, and refusals come in
-// their order. A call that fails and is made again leaves a count and no event, and no clause speaks of that count.
+// Commands over a store in memory of which calls fail. That each fault which is counted is the answer is proved: none is
+// passed over, or answered as want of memory. Rows alone say that what the first file is refused for doesn't yield to a fault
+// at the second, since a shelf counts its faults and doesn't tell them apart.
 use crate::store_tests::log_of;
 use crate::tests::{command_over, shelf_of};
 use dbpl_base::limits::SOURCE_BYTES;

@@ -14,5 +14,6 @@ invariant-loop-file g l = record {
   count : length l.texts.items ≡ l.file-index;
   within : All (λ text. length text.items ≤ SOURCE_BYTES) l.texts.items;
   files : g.S.Shelf.files l.shelf ≡ g.S.Shelf.files l.initial.shelf;
+  fine : g.S.Shelf.shelf_faults l.shelf ≡ g.S.Shelf.shelf_faults l.initial.shelf;
   faults : g.S.Shelf.shelf_faults l.initial.shelf ≤ g.S.Shelf.shelf_faults l.shelf;
 }

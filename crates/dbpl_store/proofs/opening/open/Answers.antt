@@ -1,7 +1,7 @@
-use Rattle.std.proofs.Common.{Err, ap, sym, ◌∙◌}
+use Rattle.std.proofs.Common.{Err, ap, inr, sym, ◌∙◌}
 use Rattle.dbpl_log.proofs.RecordLaws.{records_head}
 use Rattle.dbpl_log.specs.Rest.{records_in}
-use Rattle.dbpl_store.proofs.Openings.{err_is, log-damaged, log-refused, opened-anyway, opened-damaged, opened-damaged_where, opened-read, opened-stood, opening-moments}
+use Rattle.dbpl_store.proofs.Openings.{err_is, log-damaged, log-fault, log-refused, opened-anyway, opened-damaged, opened-damaged_where, opened-fine, opened-read, opened-stood, opening-moments}
 use Rattle.dbpl_world.specs.History.{now}
 use Rattle.dbpl_store.proofs.opening.open.Goals as goal
 
@@ -55,3 +55,9 @@ returns-in-Ok-clause-settled g c = λ told refused. c.in-Ok.ensures.synced told
 pub returns-in-Err-clause-settled : goal.returns-in-Err-clause-settled
 returns-in-Err-clause-settled g c = λ told refused.
     c.open.ensures.settled told (log-refused c.in-Err.err _ c.open.result c.in-Err.is c.store_err.ensures refused)
+
+pub returns-in-Ok-clause-fine : goal.returns-in-Ok-clause-fine
+returns-in-Ok-clause-fine g c = inr (opened-fine c.open.result _ c.in-Ok.is c.open.ensures.fine)
+
+pub returns-in-Err-clause-fine : goal.returns-in-Err-clause-fine
+returns-in-Err-clause-fine g c = log-fault c.in-Err.err _ c.open.result c.in-Err.is c.store_err.ensures c.open.ensures.fine

@@ -8,8 +8,9 @@ use Rattle.dbpl_store.specs.declared.store_err.StoreErr.TheVariants as store_err
 use Rattle.dbpl_stored_run.proofs.Answering.{counts-then, disk-counts, due-ended, due-stopped, due-unopened, due-wanting, every-err, handed, memory-only, no-ok, no-other_type, no-out_fault, no-refusal, no-trap, opening-failed, opening-refused, opening-three, opening-two, stopped-fault, unrefused, wanting-refuses, was-damaged, was-disk_fault, was-fault, was-no_store, was-out_fault, was-trapped}
 use Rattle.dbpl_stored_run.proofs.Ending.{HasBegun, bound-begun, begun-agrees, begun-head, begun-made, begun-moments, begun-run, begun-some, begun-sound, begun-stands, has-other, matched-true, moments-unbegun, other-unbound, reads-head, reads-of, reads-undamaged, some-unbegun}
 use Rattle.dbpl_stored_run.proofs.Stores.{open-kept}
-use Rattle.dbpl_stored_run.proofs.Tying.{only-synced, only-then, some-all}
-use Rattle.dbpl_stored_run.proofs.WrittenOut.{disk-fine, fine-since, fine-where, run-where}
+use Rattle.dbpl_stored_run.proofs.Tying.{only-synced, only-then, pages-stay, some-all}
+use Rattle.dbpl_stored_run.proofs.WrittenOut.{disk-fine, fine-since, fine-where, open-where, run-where}
+use Rattle.dbpl_stored_run.specs.declared.body_err.BodyErr.TheVariants as body_errors
 use Rattle.dbpl_stored_run.specs.declared.stop_err.StopErr.TheVariants as errors
 use Rattle.dbpl_world.proofs.CountLaws.{rose_since}
 use Rattle.dbpl_world.specs.History.{now}
@@ -34,6 +35,16 @@ pub returns-in_err-store-clause-whole_trapped : goal.returns-in_err-store-clause
 returns-in_err-store-clause-whole_trapped g c =
     let is = handed c.from_residual.result _ c.from_residual.ensures.1 in
     λ told database bound reads binds trap e. no-trap c.from_residual.result _ is trap e
+
+pub returns-in_err-store-clause-pages : goal.returns-in_err-store-clause-pages
+returns-in_err-store-clause-pages g c =
+    let is = handed c.from_residual.result _ c.from_residual.ensures.1 in
+    λ told. no-ok _ c.from_residual.result _ is
+
+pub returns-in_err-store-clause-pages_trapped : goal.returns-in_err-store-clause-pages_trapped
+returns-in_err-store-clause-pages_trapped g c =
+    let is = handed c.from_residual.result _ c.from_residual.ensures.1 in
+    λ told trap e. no-trap c.from_residual.result _ is trap e
 
 pub returns-in_err-store-clause-complete : goal.returns-in_err-store-clause-complete
 returns-in_err-store-clause-complete g c =
@@ -103,6 +114,11 @@ returns-in_err-store-clause-out_fault g c =
 pub returns-in_err-store-clause-out_fault_where : goal.returns-in_err-store-clause-out_fault_where
 returns-in_err-store-clause-out_fault_where g c = inr (disk-fine _ _ c.open.ensures.counts)
 
+pub returns-in_err-store-clause-disk_fault_where : goal.returns-in_err-store-clause-disk_fault_where
+returns-in_err-store-clause-disk_fault_where g c =
+    let is = handed c.from_residual.result _ c.from_residual.ensures.1 in
+    open-where c.from_residual.result c.open.result _ is c.in_err-store.was c.open.ensures.fine
+
 pub returns-in_err-store-clause-at_rest : goal.returns-in_err-store-clause-at_rest
 returns-in_err-store-clause-at_rest g c =
     λ told database bound stood binds fine.
@@ -144,6 +160,16 @@ pub returns-in_err-is_bound-clause-whole_trapped : goal.returns-in_err-is_bound-
 returns-in_err-is_bound-clause-whole_trapped g c =
     let is = handed c.from_residual-in_err-is_bound.result _ c.from_residual-in_err-is_bound.ensures.1 in
     λ told database bound reads binds trap e. memory-only c.from_residual-in_err-is_bound.result (errors.Trapped trap) is tt e
+
+pub returns-in_err-is_bound-clause-pages : goal.returns-in_err-is_bound-clause-pages
+returns-in_err-is_bound-clause-pages g c =
+    let is = handed c.from_residual-in_err-is_bound.result _ c.from_residual-in_err-is_bound.ensures.1 in
+    λ told. no-ok _ c.from_residual-in_err-is_bound.result _ is
+
+pub returns-in_err-is_bound-clause-pages_trapped : goal.returns-in_err-is_bound-clause-pages_trapped
+returns-in_err-is_bound-clause-pages_trapped g c =
+    let is = handed c.from_residual-in_err-is_bound.result _ c.from_residual-in_err-is_bound.ensures.1 in
+    λ told trap e. memory-only c.from_residual-in_err-is_bound.result (errors.Trapped trap) is tt e
 
 pub returns-in_err-is_bound-clause-complete : goal.returns-in_err-is_bound-clause-complete
 returns-in_err-is_bound-clause-complete g c =
@@ -202,6 +228,9 @@ returns-in_err-is_bound-clause-out_fault g c =
 pub returns-in_err-is_bound-clause-out_fault_where : goal.returns-in_err-is_bound-clause-out_fault_where
 returns-in_err-is_bound-clause-out_fault_where g c = inr (disk-fine _ _ c.open.ensures.counts)
 
+pub returns-in_err-is_bound-clause-disk_fault_where : goal.returns-in_err-is_bound-clause-disk_fault_where
+returns-in_err-is_bound-clause-disk_fault_where g c = inr (fine-where c.open.result _ c.in_ok-store.was c.open.ensures.fine)
+
 pub returns-in_err-is_bound-clause-at_rest : goal.returns-in_err-is_bound-clause-at_rest
 returns-in_err-is_bound-clause-at_rest g c =
     λ told database bound stood binds fine.
@@ -259,6 +288,9 @@ returns-then-not-is_bound-clause-differs_where g c =
 
 pub returns-then-not-is_bound-clause-out_fault_where : goal.returns-then-not-is_bound-clause-out_fault_where
 returns-then-not-is_bound-clause-out_fault_where g c = inr (disk-fine _ _ c.open.ensures.counts)
+
+pub returns-then-not-is_bound-clause-disk_fault_where : goal.returns-then-not-is_bound-clause-disk_fault_where
+returns-then-not-is_bound-clause-disk_fault_where g c = inr (fine-where c.open.result _ c.in_ok-store.was c.open.ensures.fine)
 
 pub returns-then-not-is_bound-clause-at_rest : goal.returns-then-not-is_bound-clause-at_rest
 returns-then-not-is_bound-clause-at_rest g c =
@@ -427,8 +459,26 @@ returns-in_err-run_body-clause-out_fault g c =
 pub returns-in_err-run_body-clause-out_fault_where : goal.returns-in_err-run_body-clause-out_fault_where
 returns-in_err-run_body-clause-out_fault_where g c =
     let is = handed c.from_residual-in_err-run_body.result _ c.from_residual-in_err-run_body.ensures.1 in
-    run-where c.from_residual-in_err-run_body.result c.run_body.result _ is c.in_err-run_body.was
+    run-where c.from_residual-in_err-run_body.result c.run_body.result _ body_errors.OutFault is c.in_err-run_body.was
     (fine-since c.run_body.result _ _ _ (disk-fine _ _ c.open.ensures.counts) c.run_body.ensures.out_fault_where)
+
+pub returns-in_err-run_body-clause-disk_fault_where : goal.returns-in_err-run_body-clause-disk_fault_where
+returns-in_err-run_body-clause-disk_fault_where g c =
+    let is = handed c.from_residual-in_err-run_body.result _ c.from_residual-in_err-run_body.ensures.1 in
+    run-where c.from_residual-in_err-run_body.result c.run_body.result _ body_errors.DiskFault is c.in_err-run_body.was
+    (fine-since c.run_body.result _ _ _ (fine-where c.open.result _ c.in_ok-store.was c.open.ensures.fine)
+    c.run_body.ensures.disk_fault_where)
+
+pub returns-in_err-run_body-clause-pages : goal.returns-in_err-run_body-clause-pages
+returns-in_err-run_body-clause-pages g c =
+    let is = handed c.from_residual-in_err-run_body.result _ c.from_residual-in_err-run_body.ensures.1 in
+    λ told. no-ok _ c.from_residual-in_err-run_body.result _ is
+
+pub returns-in_err-run_body-clause-pages_trapped : goal.returns-in_err-run_body-clause-pages_trapped
+returns-in_err-run_body-clause-pages_trapped g c =
+    λ told trap e.
+    pages-stay (g.W.World.history c.args.world.now) (g.W.World.history c.open.new.world) (g.W.World.history c.run_body.new.world)
+    (c.in_ok-store.ensures.synced told) (c.run_body.ensures.only told)
 
 pub returns-in_err-run_body-clause-at_rest : goal.returns-in_err-run_body-clause-at_rest
 returns-in_err-run_body-clause-at_rest g c =
@@ -603,3 +653,14 @@ returns-clause-counts g c =
 pub returns-clause-out_fault_where : goal.returns-clause-out_fault_where
 returns-clause-out_fault_where g c =
     inr (fine-where c.run_body.result _ c.in_ok-run_body.was c.run_body.ensures.out_fault_where ∙ disk-fine _ _ c.open.ensures.counts)
+
+pub returns-clause-disk_fault_where : goal.returns-clause-disk_fault_where
+returns-clause-disk_fault_where g c =
+    inr (fine-where c.run_body.result _ c.in_ok-run_body.was c.run_body.ensures.disk_fault_where
+    ∙ fine-where c.open.result _ c.in_ok-store.was c.open.ensures.fine)
+
+pub returns-clause-pages : goal.returns-clause-pages
+returns-clause-pages g c =
+    λ told.
+    pages-stay (g.W.World.history c.args.world.now) (g.W.World.history c.open.new.world) (g.W.World.history c.run_body.new.world)
+    (c.in_ok-store.ensures.synced told) (c.run_body.ensures.only told)

@@ -1,10 +1,10 @@
 -- Each statement by its kind.
-use Rattle.std.proofs.Common.{◌∙◌, ap, refl}
+use Rattle.std.proofs.Common.{◌∙◌, ap, inr, refl}
 use Rattle.dbpl_stored_program.specs.Meaning.{before_zero}
 use Rattle.dbpl_store.specs.Stores.{committed_of, database_in}
 use Rattle.dbpl_stored_run.proofs.Acting.{printed-last, printed-made, printed-moments, printed-open, printed-some, prints-line, prints-text}
 use Rattle.dbpl_stored_run.proofs.Answering.{after-ok, on-this, printed-no_disk_fault, printed-no_trap, say-counts}
-use Rattle.dbpl_stored_run.proofs.WrittenOut.{print-where}
+use Rattle.dbpl_stored_run.proofs.WrittenOut.{print-where, say-held}
 use Rattle.dbpl_stored_run.proofs.statements.act.Goals as goal
 
 pub returns-in-WriteLn-clause-moments : goal.returns-in-WriteLn-clause-moments
@@ -192,6 +192,9 @@ returns-in-Transact-clause-out_fault g c = c.transact.ensures.out_fault
 pub returns-in-Transact-clause-out_fault_where : goal.returns-in-Transact-clause-out_fault_where
 returns-in-Transact-clause-out_fault_where g c = c.transact.ensures.out_fault_where
 
+pub returns-in-Transact-clause-disk_fault_where : goal.returns-in-Transact-clause-disk_fault_where
+returns-in-Transact-clause-disk_fault_where g c = c.transact.ensures.disk_fault_where
+
 pub returns-in-WriteLn-clause-only : goal.returns-in-WriteLn-clause-only
 returns-in-WriteLn-clause-only g c = c.print.ensures.only
 
@@ -208,6 +211,12 @@ pub returns-in-WriteLn-clause-out_fault_where : goal.returns-in-WriteLn-clause-o
 returns-in-WriteLn-clause-out_fault_where g c =
     print-where c.print.result c.print.ensures.err c.print.ensures.fine
 
+pub returns-in-WriteLn-clause-disk_fault_where : goal.returns-in-WriteLn-clause-disk_fault_where
+returns-in-WriteLn-clause-disk_fault_where g c = inr (say-held _ _ c.print.ensures.counts)
+
 pub returns-in-WriteString-clause-out_fault_where : goal.returns-in-WriteString-clause-out_fault_where
 returns-in-WriteString-clause-out_fault_where g c =
     print-where c.print-in-WriteString.result c.print-in-WriteString.ensures.err c.print-in-WriteString.ensures.fine
+
+pub returns-in-WriteString-clause-disk_fault_where : goal.returns-in-WriteString-clause-disk_fault_where
+returns-in-WriteString-clause-disk_fault_where g c = inr (say-held _ _ c.print-in-WriteString.ensures.counts)

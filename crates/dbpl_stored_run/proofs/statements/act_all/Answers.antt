@@ -19,6 +19,7 @@ loop-action-init g c = record {
   same = refl;
   counts = counts-same (g.W.World.counts c.args.world.now);
   fine = refl;
+  disk = refl;
 }
 
 pub loop-action-preserved : goal.loop-action-preserved
@@ -42,6 +43,7 @@ loop-action-preserved g c =
       same = c.act.ensures.same ∙ c.loop-action.invariant.same;
       counts = counts-then _ _ _ c.loop-action.invariant.counts c.act.ensures.counts;
       fine = fine-where c.act.result _ c.in_ok-act.was c.act.ensures.out_fault_where ∙ c.loop-action.invariant.fine;
+      disk = fine-where c.act.result _ c.in_ok-act.was c.act.ensures.disk_fault_where ∙ c.loop-action.invariant.disk;
     }
 
 pub returns-in_err-act-clause-moments : goal.returns-in_err-act-clause-moments
@@ -159,6 +161,11 @@ returns-in_err-act-clause-out_fault_where g c =
     let same = c.in_err-act.was ∙ sym (handed c.from_residual.result _ c.from_residual.ensures.1) in
     rw same at (fine-since c.act.result _ _ _ c.loop-action.invariant.fine c.act.ensures.out_fault_where)
 
+pub returns-in_err-act-clause-disk_fault_where : goal.returns-in_err-act-clause-disk_fault_where
+returns-in_err-act-clause-disk_fault_where g c =
+    let same = c.in_err-act.was ∙ sym (handed c.from_residual.result _ c.from_residual.ensures.1) in
+    rw same at (fine-since c.act.result _ _ _ c.loop-action.invariant.disk c.act.ensures.disk_fault_where)
+
 pub returns-in_err-act-clause-made : goal.returns-in_err-act-clause-made
 returns-in_err-act-clause-made g c = λ told opened. no-ok _ c.from_residual.result _ (handed c.from_residual.result _ c.from_residual.ensures.1)
 
@@ -179,3 +186,6 @@ returns-clause-counts g c = c.loop-action.invariant.counts
 
 pub returns-clause-out_fault_where : goal.returns-clause-out_fault_where
 returns-clause-out_fault_where g c = inr c.loop-action.invariant.fine
+
+pub returns-clause-disk_fault_where : goal.returns-clause-disk_fault_where
+returns-clause-disk_fault_where g c = inr c.loop-action.invariant.disk

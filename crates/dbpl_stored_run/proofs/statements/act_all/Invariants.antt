@@ -16,4 +16,5 @@ invariant-loop-action g l = record {
   same : g.W.World.mounted l.world ≡ g.W.World.mounted l.initial.world;
   counts : OnlyRunFaults (g.W.World.counts l.initial.world) (g.W.World.counts l.world);
   fine : (g.W.World.counts l.world).say_faults ≡ (g.W.World.counts l.initial.world).say_faults;
+  disk : (g.W.World.counts l.world).disk_faults ≡ (g.W.World.counts l.initial.world).disk_faults;
 }

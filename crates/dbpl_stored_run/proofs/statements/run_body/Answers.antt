@@ -3,7 +3,7 @@ use Rattle.std.proofs.Common.{◌∙◌, subst, sym}
 use Rattle.std.specs.Prelude.{OnOk}
 use Rattle.dbpl_store.specs.Stores.{committed_of, database_in}
 use Rattle.dbpl_stored_run.proofs.Answering.{counts-then, say-counts}
-use Rattle.dbpl_stored_run.proofs.WrittenOut.{end-fault, end-ok, end-other, end-where}
+use Rattle.dbpl_stored_run.proofs.WrittenOut.{end-fault, end-held, end-ok, end-other, end-where, say-held}
 use Rattle.dbpl_stored_run.specs.Headline.{HasMade, HasMadeSome, LeavesTied}
 use Rattle.dbpl_stored_run.specs.Leaving.{ChangesStore}
 use Rattle.dbpl_stored_run.specs.Statements.{events_by}
@@ -82,3 +82,8 @@ returns-clause-out_fault g c =
 pub returns-clause-out_fault_where : goal.returns-clause-out_fault_where
 returns-clause-out_fault_where g c =
     end-where c.act_all-went.result c.written_out.result _ _ c.written_out.ensures.answer _ c.act_all-went.ensures.out_fault_where
+
+pub returns-clause-disk_fault_where : goal.returns-clause-disk_fault_where
+returns-clause-disk_fault_where g c =
+    end-held c.act_all-went.result c.written_out.result _ _ _ c.written_out.ensures.disk_fault
+    (say-held _ _ c.written_out.ensures.counts) c.act_all-went.ensures.disk_fault_where

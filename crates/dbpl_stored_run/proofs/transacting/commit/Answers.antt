@@ -6,7 +6,7 @@ use Rattle.dbpl_stored_run.proofs.Answering.{counts-then, disk-counts, handed, n
 use Rattle.dbpl_stored_run.proofs.Commits.{committed-made}
 use Rattle.dbpl_stored_run.proofs.Stores.{open-stands}
 use Rattle.dbpl_stored_run.proofs.Tying.{some-all, some-none}
-use Rattle.dbpl_stored_run.proofs.WrittenOut.{disk-fine, open-still, print-where, unwritten-log, unwritten-moments, written-log, written-moments}
+use Rattle.dbpl_stored_run.proofs.WrittenOut.{disk-fine, open-still, print-where, say-held, unwritten-log, unwritten-moments, written-log, written-moments}
 use Rattle.dbpl_world.proofs.CountLaws.{rose_since}
 use Rattle.dbpl_stored_run.specs.Headline.{HasMadeSome}
 use Rattle.dbpl_world.specs.History.{History, now}
@@ -68,6 +68,9 @@ returns-in_err-write_out-clause-out_fault_where g c =
     let same = c.in_err-write_out.was ∙ sym (handed c.from_residual.result _ c.from_residual.ensures.1) in
     rw same at (print-where c.write_out.result c.write_out.ensures.err c.write_out.ensures.fine)
 
+pub returns-in_err-write_out-clause-disk_fault_where : goal.returns-in_err-write_out-clause-disk_fault_where
+returns-in_err-write_out-clause-disk_fault_where g c = inr (say-held _ _ c.write_out.ensures.counts)
+
 -- ---- it is committed
 
 pub returns-in-Ok-clause-moments : goal.returns-in-Ok-clause-moments
@@ -106,6 +109,9 @@ returns-in-Ok-clause-counts g c =
 pub returns-in-Ok-clause-out_fault_where : goal.returns-in-Ok-clause-out_fault_where
 returns-in-Ok-clause-out_fault_where g c =
     inr (disk-fine _ _ c.commit.ensures.counts ∙ c.in_ok-write_out.ensures.fine)
+
+pub returns-in-Ok-clause-disk_fault_where : goal.returns-in-Ok-clause-disk_fault_where
+returns-in-Ok-clause-disk_fault_where g c = inr (c.in-Ok.ensures.fine ∙ say-held _ _ c.write_out.ensures.counts)
 
 -- ---- its commit failed
 

@@ -56,6 +56,9 @@ returns-in_err-change-clause-out_fault g c = λ is.
 pub returns-in_err-change-clause-out_fault_where : goal.returns-in_err-change-clause-out_fault_where
 returns-in_err-change-clause-out_fault_where g c = inr refl
 
+pub returns-in_err-change-clause-disk_fault_where : goal.returns-in_err-change-clause-disk_fault_where
+returns-in_err-change-clause-disk_fault_where g c = inr refl
+
 pub returns-in_err-change-clause-counts : goal.returns-in_err-change-clause-counts
 returns-in_err-change-clause-counts g c = counts-same (g.W.World.counts c.args.world.now)
 

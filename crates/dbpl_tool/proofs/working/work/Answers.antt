@@ -39,7 +39,6 @@ made_work g c = work_of g.S.Shelf g.W.World c.args.shelf.now c.args.shelf.now c.
 made : (g : given.Over) (c : goal.After-create_store g) →
     Answered (promise_of (Create c.in-Some-Create.store.now)) (made_work g c) c.create_store.result
 made g c = c.create_store.ensures.created (g.S.Shelf.files c.args.shelf.now) (g.S.Shelf.shelf_faults c.args.shelf.now)
-    (g.S.Shelf.shelf_faults c.args.shelf.now)
 
 pub returns-in-Some-Create-clause-answers : goal.returns-in-Some-Create-clause-answers
 returns-in-Some-Create-clause-answers g c = λ asked asks.
