@@ -161,6 +161,20 @@ pub fetch_answered : {T A : Type 0} (result : Result T Status) (answer : Status)
 fetch_answered result answer is (inl failed) = inl (let both = sym is ∙ failed in cc)
 fetch_answered result answer is (inr fine) = inr fine
 
+-- since an earlier moment
+pub fetch_since : {T : Type 0} (result : Result T Status) (old mid new : ℕ) → mid ≡ old →
+    (result ≡ Err status.SourceFault) ⊎ (new ≡ mid) → (result ≡ Err status.SourceFault) ⊎ (new ≡ old)
+fetch_since result old mid new before (inl failed) = inl failed
+fetch_since result old mid new before (inr fine) = inr (fine ∙ before)
+
+-- what a `?` hands on
+pub fetch_handed : {T X A : Type 0} (result : Result T Status) (ran : Result X Status) (answer : Status) → result ≡ Err answer →
+    ran ≡ Err answer → (ran ≡ Err status.SourceFault) ⊎ A → (result ≡ Err status.SourceFault) ⊎ A
+fetch_handed {T = T} result ran answer is was (inl failed) =
+    let same : answer ≡ status.SourceFault = (let both = sym was ∙ failed in cc) in
+    inl (is ∙ ap {B = Result T Status} (λ (a : Status). Err a) same)
+fetch_handed result ran answer is was (inr fine) = inr fine
+
 -- behind what was fetched none failed
 pub fetched_well : {T A : Type 0} (result : Result T Status) (value : T) → result ≡ Ok value →
     (result ≡ Err status.SourceFault) ⊎ A → A

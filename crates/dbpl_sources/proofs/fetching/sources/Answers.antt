@@ -1,5 +1,5 @@
 -- Each file is fetched behind those before it, and the first that can't be read stops all.
-use Rattle.std.proofs.Common.{◌≡◌, ◌∙◌, ◌≤◌, ◌+◌, ℕ, List, [], ◌∷◌, ◌++◌, Vec, arith, ap, get_or, length, length-append, map, refl, subst, sym}
+use Rattle.std.proofs.Common.{◌≡◌, ◌∙◌, ◌≤◌, ◌+◌, ℕ, Err, List, [], ◌∷◌, ◌++◌, Vec, arith, ap, get_or, length, length-append, map, refl, subst, sym}
 use Rattle.std.proofs.lemmas.List.{map-append}
 use Rattle.std.proofs.lemmas.List.Elements.{All-push}
 use Rattle.std.proofs.lemmas.Result.{err_from_is_err_and}
@@ -8,7 +8,7 @@ use Rattle.dbpl_base.specs.declared.limits.TheConstants.{SOURCE_BYTES}
 use Rattle.dbpl_base.specs.declared.status.Status.{Status}
 use Rattle.dbpl_promise.specs.Stages.{Stops}
 use Rattle.dbpl_promise.specs.Work.{Work}
-use Rattle.dbpl_sources.proofs.Fetched.{all_passed, one_more, stops_here}
+use Rattle.dbpl_sources.proofs.Fetched.{all_passed, fetch_handed, fetch_since, fetched_well, one_more, stops_here}
 use Rattle.dbpl_sources.specs.Fetching.{all_fetched, fetched}
 use Rattle.dbpl_sources.proofs.fetching.sources.Goals as goal
 
@@ -32,6 +32,12 @@ returns-in_err-text-clause-err g c = λ work over.
     (c.loop-file.invariant.found work over.files_are) _
     (subst (λ (answer : Status). Stops (fetched (get_or c.args.files.now c.loop-file.file-index none).now) work answer) (sym p.2) here))
 
+pub returns-in_err-text-clause-fine : goal.returns-in_err-text-clause-fine
+returns-in_err-text-clause-fine g c =
+    let p = err_from_is_err_and c.from_residual.result c.from_residual.ensures.1 in
+    fetch_handed c.from_residual.result c.source.result _ (p.1 ∙ ap (λ (a : Status). Err a) p.2) c.in_err-text.was
+    (fetch_since c.source.result _ _ _ c.loop-file.invariant.fine c.source.ensures.fine)
+
 pub loop-file-preserved : goal.loop-file-preserved
 loop-file-preserved g c = record {
   found = λ work files.
@@ -50,6 +56,7 @@ loop-file-preserved g c = record {
       (All-push (λ text. length text.items ≤ SOURCE_BYTES) c.loop-file.texts.items c.in_ok-text.text c.loop-file.invariant.within
       c.in_ok-text.ensures.within);
   files = c.in_ok-text.ensures.files ∙ c.loop-file.invariant.files;
+  fine = fetched_well c.source.result _ c.in_ok-text.was c.source.ensures.fine ∙ c.loop-file.invariant.fine;
   faults =
       let before = c.loop-file.invariant.faults in
       let behind = c.in_ok-text.ensures.faults in omega (arith, before, behind);
