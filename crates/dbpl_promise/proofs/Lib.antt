@@ -1,4 +1,5 @@
 pub mod AnswerKinds
+pub mod Decided
 pub mod Determined
 pub mod Headline
 pub mod InFront

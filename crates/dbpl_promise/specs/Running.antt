@@ -24,6 +24,10 @@ pub record Ends (run : Run) (work : Work) (answer : Status) : Type 0 where
   pub turns : ℕ
   pub ends : IsToldBy (run.means input turns).stands answer
 
+-- over each input the meaning ends or traps, within some number of turns
+abbrev pub ComesToEnd : Run → Type 0
+ComesToEnd run = (input : List ℕ) → (turns : ℕ) × (answer : Status) × IsToldBy (run.means input turns).stands answer
+
 -- a print may fail, and the disk, where the run is over a store
 abbrev pub run_faults : Option (List ℕ) → Work → Status → Type 0
 run_faults None = out_faults

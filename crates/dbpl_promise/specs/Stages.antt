@@ -47,6 +47,10 @@ pub record IsDetermined {A : Type 0} (stage : Stage A) (work : Work) : Type 0 wh
   pub refusal : (answer other : Status) → stage.refuses work answer → stage.refuses work other → answer ≡ other
   pub apart : (a : A) (answer : Status) → stage.passes work a → stage.refuses work answer → ⊥
 
+-- THE other law of stages, where all is told: a stage passes with something, or some answer refuses.
+abbrev pub IsDecided : {A : Type 0} → Stage A → Work → Type 0
+IsDecided {A = A} stage work = ((a : A) × stage.passes work a) ⊎ ((answer : Status) × stage.refuses work answer)
+
 -- THE answer that is due: the refusal of the first stage that doesn't pass, or that with which all pass
 abbrev pub IsDue : Stage Status → Work → Status → Type 0
 IsDue stage work answer = stage.refuses work answer ⊎ stage.passes work answer

@@ -4,4 +4,4 @@
 
 mod laws;
 
-pub use laws::each_stage_does_one_thing;
+pub use laws::{each_stage_does_one_thing, each_stage_does_something};

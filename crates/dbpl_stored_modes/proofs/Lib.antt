@@ -1,3 +1,4 @@
+pub mod Decided
 pub mod MadeLaw
 pub mod RunLaw
 pub mod Stages
