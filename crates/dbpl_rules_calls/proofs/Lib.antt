@@ -1,0 +1,4 @@
+pub mod Listing
+pub mod Silencing
+pub mod Speaking
+pub mod Suiting

@@ -1,0 +1,4 @@
+pub mod Arguments
+pub mod Asking
+pub mod Results
+pub mod Rules
