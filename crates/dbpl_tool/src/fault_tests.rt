@@ -328,12 +328,12 @@ fn each_call_fails_in_its_turn(rt: HostRuntime) -> Result<(), Fail> {
             assert_eq!(rt; said, LINE.len());
         } else {
             assert!(rt; !ended && (code == 10 || code == 12));
+            let again = command_over(alloc, RUN, &mut shelf, &mut world)?;
+            assert_eq!(rt; again.code(), 0);
+            assert_eq!(rt; world.said().len(), said + LINE.len());
+            assert!(rt; world.said().ends_with(LINE));
+            assert!(rt; has_log(alloc, &mut world, AFTER));
         }
-        let again = command_over(alloc, RUN, &mut shelf, &mut world)?;
-        assert_eq!(rt; again.code(), 0);
-        assert_eq!(rt; world.said().len(), said + LINE.len());
-        assert!(rt; world.said().ends_with(LINE));
-        assert!(rt; has_log(alloc, &mut world, AFTER));
     }
     assert!(rt; ended);
     Ok(())
