@@ -425,7 +425,7 @@ fn commands_over_one_world(rt: HostRuntime) -> Result<(), Fail> {
     assert_eq!(rt; world.said(), b"ba\n".as_slice());
 
     // The mount is the next call, and the first sync the one behind it.
-    let (mut shelf, mut world, as_told) = stepped(alloc, &[world.calls() + 1])?;
+    let (mut shelf, mut world, as_told) = stepped(alloc, &[world.calls().wrapping_add(1)])?;
     assert!(rt; as_told);
     let failed = command_over(alloc, RUN, &mut shelf, &mut world)?;
     assert_eq!(rt; failed.code(), 10);
