@@ -1,5 +1,5 @@
 -- The judgements of the phrases in an expression, from the judgements of their parts.
-use Rattle.std.proofs.Common.{◌≡◌, ℕ, ◌+◌, ◌<◌, Bool, true, false, List, [], ◌∷◌, length, take, get_or, Option, Some, None, option_map, Result, Ok, Err, IsOkAnd, refl, ap, sym, subst, append-nil, arith, ◌∙◌}
+use Rattle.std.proofs.Common.{◌≡◌, ℕ, ◌+◌, ◌<◌, Bool, true, false, List, [], ◌∷◌, length, take, get_or, Option, Some, None, option_map, Result, Ok, Err, IfOk, IsOkAnd, refl, ap, sym, subst, append-nil, arith, ◌∙◌}
 use Rattle.std.proofs.lemmas.List.Sums.{fold_more}
 use Rattle.std.specs.Prelude.{if◌then◌else◌}
 use Rattle.std.specs.List.{fold}
@@ -150,6 +150,32 @@ nothing_met e core answer old new is met made_of =
     moved (nothing_given old.setting e) (made (λ none. arguments.Nothing) otherwise) (Ok answer) old new
     (ap (λ (found : Option Designated). made (λ none. arguments.Nothing) (option_map_or (λ one. one.unasked) found otherwise))
     (lone old.setting e None is))
+    (made_of ∙ twice core ∙ ap (λ (part : Option Typed). option_map (λ none. arguments.Nothing) (option_map (λ known. tt) part)) met.0, met.1)
+
+pub made_answered :
+    {A B : Type 0} (make : A → B) (judged : Judged A) (core : Option A) (result : Result (Option B) Memory) (old new : Checking) →
+    Judges judged (Ok core) old new → IfOk result (λ answer. answer ≡ option_map make core) →
+    Judges (made make judged) result old new
+made_answered make judged core (Ok answer) old new met is = made_met make judged core answer old new met is
+made_answered make judged core (Err error) old new met is = tt
+
+-- what no constant is
+pub no_constant :
+    (constant : Option Typed) (judged : Judged Typed) (result : Result (Option Typed) Memory) (old new : Checking) →
+    None ≡ constant → Judges judged result old new → Judges (option_map_or good constant judged) result old new
+no_constant constant judged result old new is met =
+    moved (option_map_or good constant judged) judged result old new
+    (ap (λ (found : Option Typed). option_map_or good found judged) (sym is)) met
+
+-- an operand of which nothing is asked, and which is no name of a type or a module
+pub operand_unasked :
+    (named : Bool) (judged : Judged Typed) (core : Option Typed) (answer : Option Argument) (old new : Checking) →
+    false ≡ named → Judges judged (Ok core) old new → answer ≡ option_map (λ known. arguments.Nothing) core →
+    Judges (made (λ none. arguments.Nothing) (if named then good tt else made (λ known. tt) judged)) (Ok answer) old new
+operand_unasked named judged core answer old new is met made_of =
+    moved (made (λ none. arguments.Nothing) (if named then good tt else made (λ known. tt) judged))
+    (made (λ none. arguments.Nothing) (made (λ known. tt) judged)) (Ok answer) old new
+    (ap (λ (one : Bool). made (λ none. arguments.Nothing) (if one then good tt else made (λ known. tt) judged)) (sym is))
     (made_of ∙ twice core ∙ ap (λ (part : Option Typed). option_map (λ none. arguments.Nothing) (option_map (λ known. tt) part)) met.0, met.1)
 
 -- two phrases side by side, and what is made of both
