@@ -1,2 +1,4 @@
 pub mod Errors
+pub mod Programs
 pub mod Texts
+pub mod Units
