@@ -1,0 +1,12 @@
+mod Checks
+mod ExactPhrases
+mod ExactRules
+mod Exactness
+mod Fitted
+mod Induction
+mod Known
+mod Levels
+mod Mapped
+mod Maps
+mod Passing
+mod Phrases

@@ -1,0 +1,10 @@
+pub mod Aggregates
+pub mod Calls
+pub mod Checked
+pub mod Designators
+pub mod Exact
+pub mod Expressions
+pub mod Names
+pub mod Productions
+pub mod Reaching
+pub mod Rules
