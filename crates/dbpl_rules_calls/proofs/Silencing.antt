@@ -33,7 +33,7 @@ standard_argument_silences which e = search (after_silences, asks_silences, buil
 
 pub counted_argument_silences : (denoted : Denoted) → Silences (counted_argument denoted)
 unfolding counted_argument
-counted_argument_silences denoted = search (after_silences, both_silences, asks_silences, good_silences)
+counted_argument_silences denoted = search (after_silences, asks_silences, good_silences)
 
 pub kind_argument_silences : (at : Place) (t : DbType) → Silences (kind_argument at t)
 unfolding kind_argument

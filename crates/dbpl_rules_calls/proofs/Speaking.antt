@@ -45,7 +45,7 @@ standard_argument_speaks which e = search (after_speaks, asks_speaks, built_wher
 
 pub counted_argument_speaks : (denoted : Denoted) → Speaks (counted_argument denoted)
 unfolding counted_argument
-counted_argument_speaks denoted = search (after_speaks, both_speaks, asks_speaks, good_speaks)
+counted_argument_speaks denoted = search (after_speaks, asks_speaks, good_speaks)
 
 pub kind_argument_speaks : (at : Place) (t : DbType) → Speaks (kind_argument at t)
 unfolding kind_argument

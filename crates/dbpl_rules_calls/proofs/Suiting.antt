@@ -2,10 +2,10 @@
 use Rattle.std.proofs.Common.{◌≡◌, ℕ, ◌+◌, Bool, true, false, ◌&&◌, List, [], ◌∷◌, length, Option, Some, None, option_map, refl, sym, ap, ◌∙◌, subst, arith}
 use Rattle.std.specs.Prelude.{slice_get, unwrap_or}
 use Rattle.dbpl_base.specs.declared.place.Place.{Place}
-use Rattle.dbpl_judging.specs.Judgements.{Judged, asks, both, each_at, good, of, paired, ◌>>=◌, ◌>>◌}
+use Rattle.dbpl_judging.specs.Judgements.{Judged, asks, each_at, good, of, paired, ◌>>=◌, ◌>>◌}
 use Rattle.dbpl_judging.specs.declared.typed.Typed.{Typed}
 use Rattle.dbpl_rules_calls.specs.Arguments.{built_where, characters_argument, counted_argument, is_built, kind_argument, standard_argument, value_argument, variable_argument}
-use Rattle.dbpl_rules_calls.specs.Rules.{S37, S38, S40, S40_characters, S40_type, S53_counted}
+use Rattle.dbpl_rules_calls.specs.Rules.{S37, S38, S40, S40_characters, S40_type}
 use Rattle.dbpl_rules_calls.specs.declared.argument.Argument.{Argument}
 use Rattle.dbpl_rules_calls.specs.declared.argument.Argument.TheVariants as arguments
 use Rattle.dbpl_rules_calls.specs.declared.asked.Asked.{Asked}
@@ -48,13 +48,6 @@ after_asks :
 after_asks rule at true made given is = (refl, cc)
 after_asks rule at false made given is = absurd (cc)
 
-after_both :
-    (rule other : ℕ) (at : Place) (test next : Bool) (made given : Argument) →
-    (both (asks rule at test) (asks other at next) >> good made).core ≡ Some given → made ≡ given
-after_both rule other at true true made given is = cc
-after_both rule other at true false made given is = absurd (cc)
-after_both rule other at false next made given is = absurd (cc)
-
 after_built :
     (rule : ℕ) (at : Place) (test built : Bool) (made given : Argument) →
     (asks rule at test >> built_where built >> good made).core ≡ Some given → (built ≡ true) × (made ≡ given)
@@ -81,7 +74,7 @@ pub counted_suits : (denoted : Denoted) → Suits places.Counted (counted_argume
 unfolding counted_argument
 counted_suits denoted given is =
     ap (suits places.Counted)
-    (sym (after_both 40 53 denoted.designator.place (S40_type denoted.kind) (S53_counted denoted) _ given is))
+    (sym (after_asks 40 denoted.designator.place (S40_type denoted.kind) _ given is).1)
 
 pub kind_suits : (at : Place) (t : DbType) → Suits places.Kind (kind_argument at t)
 unfolding kind_argument

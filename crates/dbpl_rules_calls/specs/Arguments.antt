@@ -2,9 +2,9 @@
 use Rattle.std.specs.Prelude.{Bool, true, false}
 use Rattle.dbpl_base.specs.declared.place.Place.{Place}
 use Rattle.dbpl_core.specs.declared.expr.CoreExpr.{CoreExpr}
-use Rattle.dbpl_judging.specs.Judgements.{Judged, asks, both, good, unbuilt, ◌>>◌}
+use Rattle.dbpl_judging.specs.Judgements.{Judged, asks, good, unbuilt, ◌>>◌}
 use Rattle.dbpl_judging.specs.declared.typed.Typed.{Typed}
-use Rattle.dbpl_rules_calls.specs.Rules.{S37, S38, S40, S40_characters, S40_type, S53_counted}
+use Rattle.dbpl_rules_calls.specs.Rules.{S37, S38, S40, S40_characters, S40_type}
 use Rattle.dbpl_rules_calls.specs.declared.argument.Argument.{Argument}
 use Rattle.dbpl_rules_calls.specs.declared.argument.Argument.TheVariants as arguments
 use Rattle.dbpl_rules_calls.specs.declared.denoted.Denoted.{Denoted}
@@ -45,11 +45,9 @@ unfoldable pub standard_argument : StandardProcedure → Typed → Judged Argume
 standard_argument which e =
     asks 40 e.facts.place (S40 which e.facts) >> built_where (is_built which) >> good (valued (standard_tree which e) e)
 
--- for INC and DEC, which change it
+-- for INC and DEC, which change it: that it may be changed is asked where it is denoted
 unfoldable pub counted_argument : Denoted → Judged Argument
-counted_argument denoted =
-    both (asks 40 denoted.designator.place (S40_type denoted.kind)) (asks 53 denoted.designator.place (S53_counted denoted)) >>
-    good (arguments.Variable denoted)
+counted_argument denoted = asks 40 denoted.designator.place (S40_type denoted.kind) >> good (arguments.Variable denoted)
 
 -- the name of a type, which stands at this place, for MIN, MAX and VAL
 unfoldable pub kind_argument : Place → DbType → Judged Argument

@@ -108,7 +108,3 @@ abbrev pub S40_characters : Kind → Bool
 S40_characters (phrases.Text length first) = true
 S40_characters (phrases.Of t) = is_char_array t
 S40_characters _ = false
-
--- S53: What INC and DEC count may be changed: it is neither Done nor the variable of a range.
-abbrev pub S53_counted : Denoted → Bool
-S53_counted denoted = denoted.may_change

@@ -112,7 +112,7 @@ pub fn standard_argument(
     Ok(Some(Argument::Value(Typed { facts, tree })))
 }
 
-/// For INC and DEC, which change the variable.
+/// For INC and DEC, which change the variable: that it may be changed is asked where it is denoted.
 #[tactic(auto, unfolding(crate::specs::Arguments::counted_argument))]
 pub fn counted_argument(
     checker: &mut Checker,
@@ -123,10 +123,8 @@ pub fn counted_argument(
     let Some(denoted) = denoted else {
         return Ok(None);
     };
-    let place = denoted.designator.place;
-    let ordinal = checker.asks(40, place, takes_type(denoted.kind.get()));
-    let changes = checker.asks(53, place, denoted.may_change);
-    let Some(denoted) = kept_where(ordinal && changes, denoted) else {
+    let holds = checker.asks(40, denoted.designator.place, takes_type(denoted.kind.get()));
+    let Some(denoted) = kept_where(holds, denoted) else {
         return Ok(None);
     };
     Ok(Some(Argument::Variable(denoted)))

@@ -606,7 +606,7 @@ fn calls(rt: HostRuntime) -> Result<(), Memory> {
             Callee::Statement(StandardProcedure::Dec),
             Given::Fixed(Type::Boolean),
             Given::Absent,
-            Answer::Breaks(3, 53),
+            Answer::Takes,
         ),
         (
             Callee::WriteString,

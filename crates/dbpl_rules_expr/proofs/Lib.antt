@@ -1,0 +1,5 @@
+mod Fitted
+mod Levels
+mod Mapped
+mod Passing
+mod Phrases
