@@ -181,9 +181,9 @@ fn judge_exprs(
 fn judge_part(
     alloc: Global,
     checker: &mut Checker,
+    part: &Part,
     t: &DbType,
     steps: Option<List<CoreStep>>,
-    part: &Part,
 ) -> Result<Option<List<CoreStep>>, Memory>
     ensures { Reaches (part_judged checker.old.setting part.now (reach t.now steps)) (type_behind part.now t.now) result checker.old checker.new }
 {
@@ -202,16 +202,16 @@ fn judge_part(
 fn judge_parts(
     alloc: Global,
     checker: &mut Checker,
+    parts: &[Part],
     t: &DbType,
     steps: Option<List<CoreStep>>,
-    parts: &[Part],
 ) -> Result<Option<Reached>, Memory>
     ensures { Judges (parts_judged checker.old.setting (of good (reach t.now steps)) parts.now) result checker.old checker.new }
 {
     let mut t = t;
     let mut steps = steps;
     for part in parts {
-        steps = judge_part(alloc, checker, t, steps, part)?;
+        steps = judge_part(alloc, checker, part, t, steps)?;
         t = kind_behind(part, t);
     }
     ended(alloc, checker, t, steps)
@@ -232,7 +232,7 @@ fn judge_whole(
     }
     let other = DbType::Int;
     let steps = begun(alloc, &whole);
-    let reached = judge_parts(alloc, checker, kind_of(&whole, &other), steps, parts);
+    let reached = judge_parts(alloc, checker, parts, kind_of(&whole, &other), steps);
     let (whole, reached) = pair(whole, reached)?;
     Ok(part_of(whole, reached))
 }
@@ -597,7 +597,7 @@ fn judge_element(
 {
     match element {
         Element::Plain(e) => judge_expr(alloc, checker, e),
-        _ => {
+        Element::Each(_, _) | Element::Of(_, _, _, _) => {
             checker.unbuilt();
             Ok(None)
         }
