@@ -25,7 +25,7 @@ use Rattle.dbpl_rules_calls.specs.declared.argument.Argument.{Argument}
 use Rattle.dbpl_rules_calls.specs.declared.asked.Asked.{Asked}
 use Rattle.dbpl_rules_calls.specs.declared.denoted.Denoted.{Denoted}
 use Rattle.dbpl_rules_calls.specs.declared.argument.Argument.TheVariants as arguments
-use Rattle.dbpl_rules_expr.specs.Expressions.{alone_judged, argument_at, argument_judged, call_judged, callee_judged, changed_judged, elements_judged, exprs_judged, factor_opened, factor_value, first_judged, given_judged, indices_judged, judge_aggregate, judge_element, judge_expr, judge_factor, judging, kind_judged, lone_designator, lone_level, named_by, nothing_given, operand_judged, part_judged, parts_judged, simple_judged, target_judged, term_judged, unasked_judged, whole_judged}
+use Rattle.dbpl_rules_expr.specs.Expressions.{alone_judged, argument_at, argument_judged, call_judged, callee_judged, changed_judged, element_opened, elements_judged, exprs_judged, factor_opened, factor_value, first_judged, given_judged, indices_judged, judge_aggregate, judge_element, judge_expr, judge_factor, judging, kind_judged, lone_designator, lone_level, named_by, nothing_given, operand_judged, part_judged, parts_judged, simple_judged, target_judged, term_judged, unasked_judged, whole_judged}
 use Rattle.dbpl_rules_expr.specs.Designators.{at_subscripts, begun, built, denoted_by, kind, kind_behind, part_of, reached, variable_named}
 use Rattle.dbpl_rules_expr.specs.Names.{whole_name}
 use Rattle.dbpl_rules_expr.specs.Productions.{aggregate_value, called_or_not, designated, element_value, factor_given, relation_of, sign_of, signed_term, with_right}
@@ -39,7 +39,7 @@ use Rattle.dbpl_tree.specs.declared.designator.DesignatorOf.{DesignatorOf}
 use Rattle.dbpl_tree.specs.declared.designator.PartOf.{PartOf}
 use Rattle.dbpl_tree.specs.declared.designator.PartOf.TheVariants as parts
 use Rattle.dbpl_tree.specs.declared.each.Each.{Each}
-use Rattle.dbpl_tree.specs.declared.element.Element.{Element, Element-F, out-Element}
+use Rattle.dbpl_tree.specs.declared.element.Element.{Element, out-Element}
 use Rattle.dbpl_tree.specs.declared.element.Element.TheOpen as forms
 use Rattle.dbpl_tree.specs.declared.expr.ComparedOf.{ComparedOf}
 use Rattle.dbpl_tree.specs.declared.expr.ExprOf.{ExprOf}
@@ -68,10 +68,9 @@ factor_met f result old new =
 
 pub element_met :
     (e : Element) (result : Result (Option Typed) Memory) (old new : Checking) →
-    Judges (element_value judging (out-Element e) old.setting) result old new → Judges (judge_element e old.setting) result old new
+    Judges (element_opened old.setting e) result old new → Judges (judge_element e old.setting) result old new
 element_met e result old new =
-    moved (judge_element e old.setting) (element_value judging (out-Element e) old.setting) result old new
-    (λ i. element-out e i old.setting)
+    moved (judge_element e old.setting) (element_opened old.setting e) result old new (λ i. element-out e i old.setting)
 
 pub aggregate_met :
     (a : Aggregate) (result : Result (Option Typed) Memory) (old new : Checking) →
@@ -447,21 +446,6 @@ kind_by d place decl result other old middle new at met also same =
     answered (kind_judged old.setting d) result other old new same
     ((then) (alone_judged old.setting d) (λ setting. kind (designator_place d)) decl other old middle new met
     (subst (λ (one : Place). Judges (of (kind one) decl) other middle new) at also))
-
-plain_level :
-    (setting : Setting) (level : Element-F Element Factor Range Aggregate Each) (x : ExprOf Factor) → level ≡ forms.Plain x →
-    element_value judging level setting ≡ judge_expr setting x
-unfolding judge_expr
-plain_level setting level x is =
-    ap (λ (one : Element-F Element Factor Range Aggregate Each). element_value judging one setting) is
-
-pub plain_met :
-    (e : Element) (x : ExprOf Factor) (result : Result (Option Typed) Memory) (old new : Checking) → out-Element e ≡ forms.Plain x →
-    Judges (judge_expr old.setting x) result old new → Judges (judge_element e old.setting) result old new
-plain_met e x result old new is met =
-    element_met e result old new
-    (moved (element_value judging (out-Element e) old.setting) (judge_expr old.setting x) result old new
-    (plain_level old.setting (out-Element e) x is) met)
 
 operand_level :
     (setting : Setting) (level : Factor-F Element Factor Range Aggregate Each) (d : DesignatorOf Factor)

@@ -20,7 +20,7 @@ use Rattle.dbpl_tree.specs.FirstTokens.{designator_place}
 use Rattle.dbpl_tree.specs.declared.aggregate.Aggregate.{Aggregate, fold-Aggregate}
 use Rattle.dbpl_tree.specs.declared.designator.DesignatorOf.{DesignatorOf}
 use Rattle.dbpl_tree.specs.declared.designator.PartOf.{PartOf}
-use Rattle.dbpl_tree.specs.declared.element.Element.{Element, fold-Element}
+use Rattle.dbpl_tree.specs.declared.element.Element.{Element, fold-Element, out-Element}
 use Rattle.dbpl_tree.specs.declared.element.Element.TheOpen as forms
 use Rattle.dbpl_tree.specs.declared.expr.ExprOf.{ExprOf}
 use Rattle.dbpl_tree.specs.declared.factor.Factor.{Factor, Factor-F, fold-Factor, out-Factor}
@@ -70,6 +70,9 @@ factor_value setting f = (judge_factor f setting).value
 -- the same, one level of it
 abbrev pub factor_opened : Setting → Factor → Judged Typed
 factor_opened setting f = (factor_given judging (out-Factor f) setting).value
+
+abbrev pub element_opened : Setting → Element → Judged Typed
+element_opened setting e = element_value judging (out-Element e) setting
 
 abbrev pub negated_judged : Setting → Place → Factor → Judged Typed
 negated_judged setting place f = factor_value setting f >>= negated place

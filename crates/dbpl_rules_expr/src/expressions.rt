@@ -3,7 +3,7 @@
 ghost use Rattle.dbpl_judging.specs.Judgements.{each, each_at, good, of};
 ghost use Rattle.dbpl_judging.specs.Judging.{Judges};
 ghost use Rattle.dbpl_rules_expr.specs.Designators.{kind_behind as type_behind};
-ghost use Rattle.dbpl_rules_expr.specs.Expressions.{alone_judged, argument_at, argument_judged, call_judged, callee_judged, changed_judged, elements_judged, exprs_judged, factor_opened, factor_value, first_judged, indices_judged, judge_aggregate as aggregate_judged, judge_element as element_judged, judge_expr as expr_judged, kind_given, kind_judged, negated_judged, nothing_given, operand_judged, parenthesized_judged, part_judged, parts_judged, simple_judged, target_given, target_judged, term_judged, unasked_judged, variable_given, variable_judged, whole_judged};
+ghost use Rattle.dbpl_rules_expr.specs.Expressions.{alone_judged, argument_at, argument_judged, call_judged, callee_judged, changed_judged, element_opened, elements_judged, exprs_judged, factor_opened, factor_value, first_judged, indices_judged, judge_aggregate as aggregate_judged, judge_element as element_judged, judge_expr as expr_judged, kind_given, kind_judged, negated_judged, nothing_given, operand_judged, parenthesized_judged, part_judged, parts_judged, simple_judged, target_given, target_judged, term_judged, unasked_judged, variable_given, variable_judged, whole_judged};
 ghost use Rattle.dbpl_rules_expr.specs.Reaching.{Reaches, reach};
 ghost use Rattle.dbpl_tree.specs.Plain.{arguments_in, exprs_in};
 
@@ -15,7 +15,7 @@ use crate::designators::{
 };
 use crate::lone::lone_designator;
 use crate::meanings::{brace_named, callee, constant_named, is_kind_or_module, kind};
-use crate::names::{parts_of, stands_alone, whole_name};
+use crate::names::{is_whole, parts_of, whole_name};
 use crate::parts::{breaks_known, count_of_arguments, first_of, nothing_of, one_more, second_of};
 use crate::productions::{multiplied, placed, relation_of, sign_of, summed};
 use crate::variables::variable_named;
@@ -227,7 +227,7 @@ fn judge_whole(
 ) -> Result<Option<Denoted>, Memory>
     ensures { Judges (whole_judged checker.old.setting parts.now whole) result checker.old checker.new }
 {
-    if matches!(parts, []) {
+    if is_whole(parts) {
         return Ok(whole);
     }
     let other = DbType::Int;
@@ -587,6 +587,25 @@ fn judge_elements(
     Ok(list)
 }
 
+/// An element by its kind.
+#[tactic(auto, unfolding(crate::specs::Expressions::judge_expr))]
+#[cycle(judged_phrases)]
+fn judge_opened_element(
+    alloc: Global,
+    checker: &mut Checker,
+    element: &Element,
+) -> Result<Option<Typed>, Memory>
+    ensures { Judges (element_opened checker.old.setting element.now) result checker.old checker.new }
+{
+    match element {
+        Element::Plain(e) => judge_expr(alloc, checker, e),
+        _ => {
+            checker.unbuilt();
+            Ok(None)
+        }
+    }
+}
+
 #[cycle(judged_phrases)]
 fn judge_element(
     alloc: Global,
@@ -595,13 +614,7 @@ fn judge_element(
 ) -> Result<Option<Typed>, Memory>
     ensures { Judges (element_judged element.now checker.old.setting) result checker.old checker.new }
 {
-    match element {
-        Element::Plain(e) => judge_expr(alloc, checker, e),
-        Element::Each(_, _) | Element::Of(_, _, _, _) => {
-            checker.unbuilt();
-            Ok(None)
-        }
-    }
+    judge_opened_element(alloc, checker, element)
 }
 
 #[cycle(judged_phrases)]

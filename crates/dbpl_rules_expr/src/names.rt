@@ -99,11 +99,18 @@ pub(crate) fn parts_of<'a>(setting: &Setting, d: &'a Designator) -> &'a [Part]
     )
 }
 
-/// Whether no parts stand behind it.
+/// Whether no parts stand behind a name.
+pub(crate) fn is_whole(parts: &[Part]) -> bool
+    ensures { result ≡ is_empty parts.now }
+{
+    matches!(parts, [])
+}
+
+/// Whether no parts stand behind the name of a designator.
 pub(crate) fn stands_alone(setting: &Setting, d: &Designator) -> bool
     ensures { result ≡ is_empty (named setting.now d.now.head d.now.parts).parts }
 {
-    matches!(parts_of(setting, d), [])
+    is_whole(parts_of(setting, d))
 }
 
 /// What is declared by the name of a designator.

@@ -5,13 +5,14 @@ use Rattle.dbpl_judging.specs.Judgements.{breaks, good, of}
 use Rattle.dbpl_judging.specs.Judging.{Judges}
 use Rattle.dbpl_rules_calls.specs.Arguments.{characters_argument, counted_argument, kind_argument, standard_argument, value_argument, variable_argument}
 use Rattle.dbpl_rules_calls.specs.declared.asked.Asked.TheVariants as places
-use Rattle.dbpl_rules_expr.proofs.Phrases.{aggregate_by, alone_by, argument_by, call_made, call_opened, callee_by, compared_by, factor_met, kind_by, lone_met, more_parts, next_at, next_of_list, nothing_met, operand_opened, other_met, plain_met, signed_by, subscripts_by, target_by, unasked_met, whole_by}
+use Rattle.dbpl_rules_expr.proofs.Phrases.{aggregate_by, alone_by, argument_by, call_made, call_opened, callee_by, compared_by, element_met, factor_met, kind_by, lone_met, more_parts, next_at, next_of_list, nothing_met, operand_opened, other_met, signed_by, subscripts_by, target_by, unasked_met, whole_by}
 use Rattle.dbpl_rules_expr.specs.Expressions.{argument_at, factor_value, first_judged, indices_judged, judge_element, kind_given, part_judged, simple_judged, target_given, term_judged, variable_given}
 use Rattle.dbpl_rules_expr.specs.Expressions.{judge_expr as expr_judged}
 use Rattle.dbpl_rules_expr.specs.Productions.{multiplied, summed}
 use Rattle.dbpl_rules_expr.specs.Reaching.{reach}
 use Rattle.dbpl_rules_operators.specs.Operators.{negated}
 use Rattle.dbpl_tree.specs.Plain.{arguments_in}
+use Rattle.dbpl_tree.specs.declared.factor.Factor.{out-Factor}
 use Rattle.dbpl_value.specs.declared.db_type.DbType
 use Rattle.dbpl_rules_expr.proofs.expressions.+judged_phrases.Goals as goal
 
@@ -148,10 +149,10 @@ judge_callee-returns t c =
     callee_by c.args.d.now c.place.result c.in_ok-decl.decl (Ok c.callee.result) c.args.checker.now c.judge_alone.new.checker
     c.callee.new.checker c.place.ensures c.in_ok-decl.ensures c.callee.ensures
 
-pub judge_element-returns-in-Plain : goal.judge_element-returns-in-Plain
-judge_element-returns-in-Plain t c =
-    plain_met c.args.element.now c.in-Plain.e c.judge_expr.result c.args.checker.now c.judge_expr.new.checker c.in-Plain.is
-    c.judge_expr.ensures
+pub judge_element-returns : goal.judge_element-returns
+judge_element-returns t c =
+    element_met c.args.element.now c.judge_opened_element.result c.args.checker.now c.judge_opened_element.new.checker
+    c.judge_opened_element.ensures
 
 pub judge_elements-loop-element-preserved : goal.judge_elements-loop-element-preserved
 judge_elements-loop-element-preserved t c =
@@ -199,14 +200,14 @@ judge_negated-returns t c =
 pub judge_opened-returns-in-Designator-default-None : goal.judge_opened-returns-in-Designator-default-None
 judge_opened-returns-in-Designator-default-None t c =
     operand_opened c.args.f.now c.in-Designator-default-None.d c.in-Designator-default-None.field-1 c.judge_operand.result
-    c.args.checker.now c.judge_operand.new.checker c.in-Designator-default-None.is c.in-Designator-default-None.field-1-is
+    c.args.checker.now c.judge_operand.new.checker (ap out-Factor c.in-Designator-default-None.is) c.in-Designator-default-None.field-1-is
     c.judge_operand.ensures
 
 pub judge_opened-returns-in_ok-decl-in-Designator-default-Some : goal.judge_opened-returns-in_ok-decl-in-Designator-default-Some
 judge_opened-returns-in_ok-decl-in-Designator-default-Some t c =
     call_opened c.args.f.now c.in-Designator-default-Some.d c.in-Designator-default-Some.field-1
     c.get-in-Designator-default-Some.result.now c.place.result c.in_ok-decl-in-Designator-default-Some.decl c.judge_call.result
-    c.args.checker.now c.judge_callee.new.checker c.judge_call.new.checker c.in-Designator-default-Some.is
+    c.args.checker.now c.judge_callee.new.checker c.judge_call.new.checker (ap out-Factor c.in-Designator-default-Some.is)
     (c.in-Designator-default-Some.field-1-is ∙ ap Some (sym c.get-in-Designator-default-Some.ensures)) c.place.ensures
     c.in_ok-decl-in-Designator-default-Some.ensures c.judge_call.ensures
 
@@ -256,5 +257,5 @@ pub judge_whole-returns : goal.judge_whole-returns
 judge_whole-returns t c =
     whole_by c.args.parts.now c.args.whole c.in_ok-whole.whole DbType.Int c.kind_of.result.now c.begun-steps.result
     c.judge_parts-reached.result c.in_ok-whole.reached c.part_of.result c.args.checker.now c.judge_parts-reached.new.checker
-    c.if-matches.false c.kind_of.ensures c.begun-steps.ensures c.judge_parts-reached.ensures c.in_ok-whole.ensures.ok
+    (sym c.is_whole.ensures ∙ c.if-is_whole.false) c.kind_of.ensures c.begun-steps.ensures c.judge_parts-reached.ensures c.in_ok-whole.ensures.ok
     c.part_of.ensures

@@ -103,6 +103,9 @@ decreases-judge_call l = 16 * goal.size-judge_call l + 12
 abbrev pub decreases-judge_elements : goal.decreases-judge_elements
 decreases-judge_elements l = 16 * goal.size-judge_elements l + 2
 
+abbrev pub decreases-judge_opened_element : goal.decreases-judge_opened_element
+decreases-judge_opened_element l = 16 * goal.size-judge_opened_element l
+
 abbrev pub decreases-judge_element : goal.decreases-judge_element
 decreases-judge_element l = 16 * goal.size-judge_element l + 1
 
