@@ -1,5 +1,9 @@
 mod Fitted
+mod Induction
+mod Known
 mod Levels
 mod Mapped
+mod Maps
 mod Passing
 mod Phrases
+mod Silencing
