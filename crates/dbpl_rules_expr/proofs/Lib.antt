@@ -1,3 +1,6 @@
+mod ExactPhrases
+mod ExactRules
+mod Exactness
 mod Fitted
 mod Induction
 mod Known
@@ -6,4 +9,3 @@ mod Mapped
 mod Maps
 mod Passing
 mod Phrases
-mod Silencing

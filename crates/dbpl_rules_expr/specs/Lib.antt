@@ -1,6 +1,7 @@
 pub mod Aggregates
 pub mod Calls
 pub mod Designators
+pub mod Exact
 pub mod Expressions
 pub mod Names
 pub mod Productions
