@@ -13,7 +13,7 @@ use Rattle.dbpl_rules_calls.proofs.Silencing.{called_silences, function_rules_si
 use Rattle.dbpl_rules_calls.proofs.Speaking.{call_speaks}
 use Rattle.dbpl_rules_calls.proofs.Suiting.{Suits, characters_suits, counted_suits, each_suits, kind_suits, standard_suits, suits, then_suits, value_suits, variable_suits}
 use Rattle.dbpl_rules_calls.specs.Arguments.{characters_argument, counted_argument, kind_argument, standard_argument, value_argument, variable_argument}
-use Rattle.dbpl_rules_calls.specs.Asking.{asked}
+use Rattle.dbpl_rules_calls.specs.Asking.{asked, asked_by}
 use Rattle.dbpl_rules_calls.specs.Results.{called, function_rules}
 use Rattle.dbpl_rules_calls.specs.Rules.{is_relation_type}
 use Rattle.dbpl_rules_calls.specs.declared.argument.Argument.TheVariants as arguments
@@ -29,7 +29,7 @@ use Rattle.dbpl_rules_expr.specs.Aggregates.{brace, brace_level, brace_named, co
 use Rattle.dbpl_rules_expr.specs.Calls.{Designated, Given, argument, arguments_for, asked_of, call, call_by, callee, callee_level, callee_named, given_by, is_lone, of_nothing, only_value, or_breaks}
 use Rattle.dbpl_rules_expr.specs.Designators.{alone, at_field, at_index, at_part, at_subscripts, begun, built, changed_by, constant_named, denoted, denoted_by, index_rules, index_step, is_kind_or_module, kind, kind_level, kind_named, only, operand_named, part_indices, reached, read, root_of, target, to_field, unasked, variable, variable_level, variable_named, with_reached, with_step}
 use Rattle.dbpl_rules_expr.specs.Exact.{IsExact}
-use Rattle.dbpl_rules_expr.specs.Expressions.{factor_judged, judge_expr, judge_factor}
+use Rattle.dbpl_rules_expr.specs.Expressions.{argument_at, callee_judged, factor_judged, given_judged, judge_expr, judge_factor, kind_judged, named_by, target_judged, variable_judged}
 use Rattle.dbpl_rules_expr.specs.Names.{Named, Word, declared, is_qual_whole, known_level, meant, named, qual_named, second_word, whole_name, whole_word, word}
 use Rattle.dbpl_rules_expr.specs.Productions.{Judging, aggregate_value, called_or_not, designator, element_value, expr, factor_given, given_value, multiplied, placed, relation_of, sign_of, signed_term, simple, summed, term, value, with_right}
 use Rattle.dbpl_rules_expr.specs.Rules.{S32, S33, S34, S53}
@@ -513,3 +513,35 @@ judged_exact setting known = factor_keeps IsExact GivenExact setting (levels_exa
 pub expression_exact : (setting : Setting) → IsKnown setting.scope → (e : ExprOf Factor) → IsExact (judge_expr setting e)
 unfolding judge_expr
 expression_exact setting known = value_exact (factor_judged setting) (judged_exact setting known) setting known
+
+-- THE law of expressions, whatever is asked of them
+pub expression_given : (setting : Setting) → IsKnown setting.scope → (e : ExprOf Factor) → GivenExact (given_judged setting e)
+unfolding judge_expr
+expression_given setting known = given_exact (factor_judged setting) (judged_exact setting known) setting known
+
+-- ---- the other phrases in expressions
+
+module _ (setting : Setting) (known : IsKnown setting.scope) where
+  pub variable_exact : (d : DesignatorOf Factor) → IsExact (variable_judged setting d)
+  variable_exact d =
+      denoted_exact (judge_expr setting) (expression_exact setting known) (designator_place d) (named_by setting d)
+      (named_known setting d.head d.parts known)
+
+  pub changed_exact : (d : DesignatorOf Factor) → IsExact (target_judged setting d)
+  changed_exact d =
+      target_exact (judge_expr setting) (expression_exact setting known) (designator_place d) (named_by setting d)
+      (named_known setting d.head d.parts known)
+
+  pub type_exact : (d : DesignatorOf Factor) → IsExact (kind_judged setting d)
+  type_exact d =
+      kind_named_exact (judge_expr setting) (expression_exact setting known) (designator_place d) (named_by setting d)
+      (named_known setting d.head d.parts known)
+
+  pub routine_exact : (d : DesignatorOf Factor) → IsExact (callee_judged setting d)
+  routine_exact d =
+      callee_exact (given_judged setting) (expression_given setting known) (designator_place d) (named_by setting d)
+      (named_known setting d.head d.parts known)
+
+  pub given_arguments_exact : (decl : Option Decl) (count : ℕ) (es : List (ExprOf Factor)) → IsExact (each_at (argument_at decl count setting) 0 es)
+  given_arguments_exact decl count es =
+      arguments_exact (given_judged setting) (expression_given setting known) (asked_by decl count) es

@@ -1,3 +1,4 @@
+mod Checks
 mod ExactPhrases
 mod ExactRules
 mod Exactness

@@ -1,5 +1,6 @@
 pub mod Aggregates
 pub mod Calls
+pub mod Checked
 pub mod Designators
 pub mod Exact
 pub mod Expressions

@@ -133,7 +133,7 @@ fn judge_simple(alloc: Global, checker: &mut Checker, s: &Simple) -> Result<Opti
 /// An expression in its setting.
 #[tactic(auto, unfolding(crate::specs::Expressions::judge_expr))]
 #[cycle(judged_phrases)]
-pub(crate) fn judge_expr(
+pub fn judge_expr(
     alloc: Global,
     checker: &mut Checker,
     e: &Expr,

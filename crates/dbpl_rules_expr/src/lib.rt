@@ -2,6 +2,7 @@
 #![tactic(auto)]
 
 mod aggregates;
+mod check;
 mod designators;
 mod expressions;
 mod laws;
@@ -11,8 +12,12 @@ mod names;
 mod parts;
 mod productions;
 mod reached;
+mod rule_err;
 mod rules;
 mod variables;
 
-pub use laws::judged_by_levels;
+pub use check::{answered, check_expr};
+pub use expressions::judge_expr as expr;
+pub use laws::{exact_expressions, judged_by_levels};
 pub use reached::Reached;
+pub use rule_err::RuleErr;
