@@ -23,11 +23,7 @@ pub fn answered<A: Drop>(checker: &Checker, found: Option<A>) -> Result<A, RuleE
 }
 
 /// The expression as it goes on from the rules, or its least breach. The scope is as before. Want of memory is free.
-pub fn check_expr(
-    alloc: Global,
-    checker: &mut Checker,
-    e: &Expr,
-) -> Result<CoreExpr, RuleErr>
+pub fn check_expr(alloc: Global, checker: &mut Checker, e: &Expr) -> Result<CoreExpr, RuleErr>
     requires known { IsKnown checker.old.setting.scope }
     requires first { checker.old.least ≡ None }
     ensures { IsChecked (checked_expr checker.old.setting e.now) checker.old result checker.new }

@@ -133,11 +133,7 @@ fn judge_simple(alloc: Global, checker: &mut Checker, s: &Simple) -> Result<Opti
 /// An expression in its setting.
 #[tactic(auto, unfolding(crate::specs::Expressions::judge_expr))]
 #[cycle(judged_phrases)]
-pub fn judge_expr(
-    alloc: Global,
-    checker: &mut Checker,
-    e: &Expr,
-) -> Result<Option<Typed>, Memory>
+pub fn judge_expr(alloc: Global, checker: &mut Checker, e: &Expr) -> Result<Option<Typed>, Memory>
     ensures { Judges (expr_judged checker.old.setting e.now) result checker.old checker.new }
 {
     let left = judge_simple(alloc, checker, &e.left)?;

@@ -14,6 +14,8 @@ mod productions;
 mod reached;
 mod rule_err;
 mod rules;
+#[cfg(test)]
+mod tests;
 mod variables;
 
 pub use check::{answered, check_expr};
