@@ -1,13 +1,13 @@
 -- That the last step of a check answers what a check is to answer.
-use Rattle.std.proofs.Common.{◌≡◌, List, [], ◌∷◌, Option, Some, None, option_map, Result, Ok, Err, IsSome, refl, sym, ap, ◌∙◌, subst}
+use Rattle.std.proofs.Common.{◌≡◌, List, [], Option, Some, None, option_map, Result, Ok, sym, ap, ◌∙◌, subst}
 use Rattle.dbpl_base.specs.declared.refusal.Refusal.{Refusal}
 use Rattle.dbpl_judging.proofs.Least.{none_least}
 use Rattle.dbpl_judging.specs.Checking.{Checking, all_noted, least, noting}
 use Rattle.dbpl_judging.specs.Judgements.{Judged, made}
-use Rattle.dbpl_judging.specs.Speaks.{Speaks}
-use Rattle.dbpl_rules_expr.specs.Checked.{Answers, IsChecked}
+use Rattle.dbpl_judging.specs.Speaks.{Speaks, SpeaksStaged}
+use Rattle.dbpl_judging.specs.Stages.{Staged, Stages, in_scope}
+use Rattle.dbpl_rules_expr.specs.Checked.{Answers, IsChecked, IsCheckedStage}
 use Rattle.dbpl_rules_expr.specs.declared.rule_err.RuleErr.{RuleErr}
-use Rattle.dbpl_rules_expr.specs.declared.rule_err.RuleErr.TheVariants as errors
 
 -- what a judge leaves: its answer is the core, and its breaches were noted behind what declares
 abbrev Left : {A : Type 0} → Judged A → Option A → Checking → Checking → Type 0
@@ -45,7 +45,24 @@ pub checked :
 checked judged found behind new result first judges answers =
     by_least judged found behind new new.least result judges (least_of judged.breaches behind new first judges.1) answers
 
--- what is made of what was accepted
+-- ---- what declares
+
+pub stage_found_or_noted :
+    {A : Type 0} (staged : Staged A) (found : Option A) (old new : Checking) → old.least ≡ None → SpeaksStaged staged →
+    Stages staged (Ok found) old new → new.least ≡ None → found ≡ None → ⊥
+stage_found_or_noted staged found old new first speaks stages =
+    found_or_noted (record { breaches = staged.breaches; core = staged.core }) found (in_scope staged.scope old) new first
+    speaks.core stages
+
+pub checked_stage :
+    {A : Type 0} (staged : Staged A) (found : Option A) (old new : Checking) (result : Result A RuleErr) → old.least ≡ None →
+    Stages staged (Ok found) old new → Answers new.least found result → IsCheckedStage staged result old new
+checked_stage staged found old new result first stages answers =
+    checked (record { breaches = staged.breaches; core = staged.core }) found (in_scope staged.scope old) new result first stages
+    answers
+
+-- ---- what is made of what was accepted
+
 pub made_of_accepted :
     {A B : Type 0} (make : A → B) (judged : Judged A) (found : A) (behind new : Checking) →
     IsChecked judged behind (Ok found) new → IsChecked (made make judged) behind (Ok (make found)) new

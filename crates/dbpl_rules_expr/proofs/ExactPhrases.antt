@@ -27,7 +27,7 @@ use Rattle.dbpl_rules_expr.proofs.Induction.{Keeps, KeepsLevels, factor_keeps}
 use Rattle.dbpl_rules_expr.proofs.Known.{IsKnownWord, word_known}
 use Rattle.dbpl_rules_expr.specs.Aggregates.{brace, brace_level, brace_named, counted_kind, packed, packed_rules}
 use Rattle.dbpl_rules_expr.specs.Calls.{Designated, Given, argument, arguments_for, asked_of, call, call_by, callee, callee_level, callee_named, given_by, is_lone, of_nothing, only_value, or_breaks}
-use Rattle.dbpl_rules_expr.specs.Designators.{alone, at_field, at_index, at_part, at_subscripts, begun, built, changed_by, constant_named, denoted, denoted_by, index_rules, index_step, is_kind_or_module, kind, kind_level, kind_named, only, operand_named, part_indices, reached, read, root_of, target, to_field, unasked, variable, variable_level, variable_named, with_reached, with_step}
+use Rattle.dbpl_rules_expr.specs.Designators.{alone, at_field, at_index, at_part, at_subscripts, begun, built, changed_by, constant_named, denoted, denoted_by, index_rules, is_kind_or_module, kind, kind_level, kind_named, operand_named, part_indices, reached, read, root_of, target, to_field, unasked, variable, variable_level, variable_named, with_reached}
 use Rattle.dbpl_rules_expr.specs.Exact.{IsExact}
 use Rattle.dbpl_rules_expr.specs.Expressions.{argument_at, callee_judged, factor_judged, given_judged, judge_expr, judge_factor, kind_judged, named_by, target_judged, variable_judged}
 use Rattle.dbpl_rules_expr.specs.Names.{Named, Word, declared, is_qual_whole, known_level, meant, named, qual_named, second_word, whole_name, whole_word, word}
@@ -59,7 +59,7 @@ use Rattle.dbpl_tree.specs.declared.operators.MultiplyingOperator.{MultiplyingOp
 use Rattle.dbpl_tree.specs.declared.operators.SignOperator.{SignOperator}
 use Rattle.dbpl_tree.specs.declared.simple.SimpleOf.{SimpleOf}
 use Rattle.dbpl_tree.specs.declared.term.TermOf.{TermOf}
-use Rattle.dbpl_value.specs.Types.{element_of, fields_of, type_named}
+use Rattle.dbpl_value.specs.Types.{fields_of, type_named}
 use Rattle.dbpl_value.specs.declared.db_type.DbType.{DbType}
 
 -- ---- names

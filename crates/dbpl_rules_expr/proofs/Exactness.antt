@@ -1,10 +1,10 @@
 -- That each word of judgements keeps exactness.
-use Rattle.std.proofs.Common.{◌≡◌, ℕ, Bool, true, false, List, Option, Some, None, refl}
+use Rattle.std.proofs.Common.{◌≡◌, ℕ, Bool, true, false, List, Option, Some, None}
 use Rattle.std.specs.Prelude.{if◌then◌else◌}
 use Rattle.std.specs.Option.{option_map_or}
 use Rattle.dbpl_base.specs.declared.place.Place.{Place}
-use Rattle.dbpl_judging.proofs.Silencing.{after_silences, asks_silences, both_silences, breaks_silences, each_at_silences, each_silences, folded_silences, good_silences, known_silences, made_silences, then_silences, unbuilt_silences}
-use Rattle.dbpl_judging.proofs.Speaking.{after_speaks, asks_speaks, both_speaks, breaks_speaks, each_at_speaks, each_speaks, folded_speaks, good_speaks, known_speaks, made_speaks, then_speaks, unbuilt_speaks}
+use Rattle.dbpl_judging.proofs.Silencing.{asks_silences, both_silences, breaks_silences, each_at_silences, each_silences, folded_silences, good_silences, known_silences, made_silences, then_silences, unbuilt_silences}
+use Rattle.dbpl_judging.proofs.Speaking.{asks_speaks, both_speaks, breaks_speaks, each_at_speaks, each_speaks, folded_speaks, good_speaks, known_speaks, made_speaks, then_speaks, unbuilt_speaks}
 use Rattle.dbpl_judging.specs.Judgements.{Judged, asks, both, breaks, each, each_at, folded, good, made, unbuilt, ◌>>=◌, ◌>>?◌, ◌>>◌}
 use Rattle.dbpl_rules_expr.specs.Exact.{IsExact}
 

@@ -1,5 +1,5 @@
 -- What each level keeps holds of every tree: of what a factor is, and of the judgements of elements and aggregates.
-use Rattle.std.proofs.Common.{◌≡◌, sym, subst, ◌∙◌}
+use Rattle.std.proofs.Common.{sym, subst, ◌∙◌}
 use Rattle.dbpl_judging.specs.Judgements.{Judged}
 use Rattle.dbpl_judging.specs.declared.setting.Setting.{Setting}
 use Rattle.dbpl_judging.specs.declared.typed.Typed.{Typed}

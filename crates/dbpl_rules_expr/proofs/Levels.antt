@@ -1,9 +1,8 @@
 -- THE law of a level: the judgement of a factor is one level of it, over the judgement of the phrases in it.
-use Rattle.std.proofs.Common.{◌≡◌, ◌&&◌, List, [], ◌∷◌, length, map, Option, Some, None, option_map, refl, ap, ◌∙◌}
-use Rattle.std.specs.Prelude.{option_to_list}
+use Rattle.std.proofs.Common.{◌≡◌, List, [], map, Option, Some, None, option_map, refl, ap, ◌∙◌}
 use lib.ListN.{length-map}
 use Rattle.dbpl_base.specs.declared.place.Place.{Place}
-use Rattle.dbpl_judging.specs.Judgements.{Judged, both, each, made, ◌>>=◌}
+use Rattle.dbpl_judging.specs.Judgements.{Judged, both, made, ◌>>=◌}
 use Rattle.dbpl_judging.specs.declared.setting.Setting.{Setting}
 use Rattle.dbpl_judging.specs.declared.typed.Typed.{Typed}
 use Rattle.dbpl_rules_expr.proofs.Mapped.{call-with, designator-with as by_name, each-with, expr-with, given-with, named-with}
@@ -13,21 +12,18 @@ use Rattle.dbpl_rules_expr.specs.Expressions.{judge_aggregate, judge_element, ju
 use Rattle.dbpl_rules_expr.specs.Names.{Named, named}
 use Rattle.dbpl_rules_expr.specs.Productions.{Judging, aggregate_value, called_or_not, designator, designator_named, element_value, factor_given, given_value, placed, value}
 use Rattle.dbpl_tree.proofs.Folds.{aggregate-out as aggregate-fold, aggregate-roll as aggregate-fold-roll, element-out as element-fold, element-roll as element-fold-roll, factor-out as factor-fold, factor-roll as factor-fold-roll, folded}
-use Rattle.dbpl_tree.specs.FirstTokens.{designator_place, qual_place}
+use Rattle.dbpl_tree.specs.FirstTokens.{qual_place}
 use Rattle.dbpl_tree.specs.Maps.{Making, aggregate_with, arguments_with, designator_with, element_with, expr_with, factor_with, part_with}
-use Rattle.dbpl_tree.specs.Plain.{arguments_in, exprs_in}
+use Rattle.dbpl_tree.specs.Plain.{exprs_in}
 use Rattle.dbpl_tree.specs.declared.aggregate.Aggregate.{Aggregate, Aggregate-F, out-Aggregate, roll-Aggregate}
 use Rattle.dbpl_tree.specs.declared.designator.ArgumentsOf.{ArgumentsOf}
 use Rattle.dbpl_tree.specs.declared.designator.DesignatorOf.{DesignatorOf}
-use Rattle.dbpl_tree.specs.declared.designator.PartOf.TheVariants as parts
 use Rattle.dbpl_tree.specs.declared.each.Each.{Each}
 use Rattle.dbpl_tree.specs.declared.element.Element.{Element, Element-F, out-Element, roll-Element}
 use Rattle.dbpl_tree.specs.declared.element.Element.TheOpen as forms
 use Rattle.dbpl_tree.specs.declared.expr.ExprOf.{ExprOf}
 use Rattle.dbpl_tree.specs.declared.expr.ExprsOf.{ExprsOf}
 use Rattle.dbpl_tree.specs.declared.factor.Factor.{Factor, Factor-F, out-Factor, roll-Factor}
-use Rattle.dbpl_tree.specs.declared.ident.Ident.{Ident}
-use Rattle.dbpl_tree.specs.declared.ident.Qual.{Qual}
 use Rattle.dbpl_tree.specs.declared.range.Range.{Range}
 
 -- ---- what a factor gives, with other things in its place

@@ -1,28 +1,24 @@
 -- The judgement of a phrase with other things in place of its factors: it is the judgement of the phrase by way of them.
 use Rattle.std.proofs.Common.{◌≡◌, ℕ, ◌+◌, Bool, true, false, not, ◌&&◌, List, [], ◌∷◌, map, length, Option, Some, None, option_map, refl, ap, ◌∙◌}
 use Rattle.std.specs.Prelude.{if◌then◌else◌, is_some}
-use Rattle.std.specs.List.{fold}
 use Rattle.std.specs.Option.{option_map_or}
 use lib.ListN.{length-map}
 use Rattle.dbpl_base.specs.declared.place.Place.{Place}
-use Rattle.dbpl_judging.specs.Judgements.{Judged, asks, both, breaks, each, each_at, folded, made, of, ◌>>=◌, ◌>>?◌}
+use Rattle.dbpl_judging.specs.Judgements.{Judged, asks, both, each, each_at, folded, made, of, ◌>>=◌, ◌>>?◌}
 use Rattle.dbpl_judging.specs.declared.setting.Setting.{Setting}
 use Rattle.dbpl_judging.specs.declared.typed.Typed.{Typed}
 use Rattle.dbpl_rules_calls.specs.Asking.{asked_by}
 use Rattle.dbpl_rules_calls.specs.declared.asked.Asked.{Asked}
 use Rattle.dbpl_rules_calls.specs.Results.{called, function_rules}
 use Rattle.dbpl_rules_calls.specs.declared.denoted.Denoted.{Denoted}
-use Rattle.dbpl_rules_expr.specs.Calls.{Designated, Given, argument, arguments_for, asked_of, call, call_by, callee, callee_named, designated_by, given_by, is_lone}
+use Rattle.dbpl_rules_expr.specs.Calls.{Given, argument, arguments_for, asked_of, call, call_by, callee, callee_named, given_by, is_lone}
 use Rattle.dbpl_rules_expr.specs.Designators.{alone, at_part, at_subscripts, begun, built, changed_by, constant_by, denoted, denoted_by, is_kind_or_module_by, kind, operand_named, part_indices, reached, read, target, unasked, variable_named, with_reached}
 use Rattle.dbpl_rules_expr.specs.Names.{Named, named, parts_behind, second_word, whole_word, word}
 use Rattle.dbpl_rules_expr.specs.Rules.{S53}
 use Rattle.dbpl_rules_expr.specs.Productions.{designated, designator_named, expr, multiplied, relation_of, signed_term, simple, summed, term, with_right}
 use Rattle.dbpl_rules_operators.specs.Operators.{compared}
 use Rattle.dbpl_rules_expr.specs.declared.reached.Reached.{Reached}
-use Rattle.dbpl_symbols.specs.Scopes.{seen}
-use Rattle.dbpl_symbols.specs.declared.decl.Decl.{Decl, Decl-F, out-Decl}
-use Rattle.dbpl_symbols.specs.declared.decl.Decl.TheOpen as decls
-use Rattle.dbpl_symbols.specs.declared.exports.Exports.{Exports}
+use Rattle.dbpl_symbols.specs.declared.decl.Decl.{Decl}
 use Rattle.dbpl_tree.specs.Maps.{added_with, compared_with, expr_with, multiplied_with, part_with, simple_with, term_with}
 use Rattle.dbpl_tree.specs.Plain.{exprs_in, is_empty}
 use Rattle.dbpl_tree.specs.declared.designator.PartOf.{PartOf}

@@ -1,5 +1,5 @@
 -- The maps of a level of a factor, an element and an aggregate are those of `Maps`.
-use Rattle.std.proofs.Common.{◌≡◌, List, [], ◌∷◌, Option, Some, None, map, refl, ap, ◌∙◌}
+use Rattle.std.proofs.Common.{◌≡◌, List, [], ◌∷◌, Option, Some, None, map, refl, ◌∙◌}
 use Rattle.std.specs.Prelude.{option_map}
 use Rattle.dbpl_base.specs.declared.place.Place.{Place}
 use Rattle.dbpl_tree.specs.Maps.{Making, aggregate_with, arguments_with, compared_with, designator_with, element_with, expr_with, exprs_with, factor_with, part_with, simple_with}
