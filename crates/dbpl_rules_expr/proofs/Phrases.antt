@@ -41,10 +41,12 @@ use Rattle.dbpl_tree.specs.declared.designator.PartOf.TheVariants as parts
 use Rattle.dbpl_tree.specs.declared.each.Each.{Each}
 use Rattle.dbpl_tree.specs.declared.element.Element.{Element, out-Element}
 use Rattle.dbpl_tree.specs.declared.element.Element.TheOpen as forms
+use Rattle.dbpl_tree.specs.declared.element.Element.TheViews.{out-roll-Factor}
 use Rattle.dbpl_tree.specs.declared.expr.ComparedOf.{ComparedOf}
 use Rattle.dbpl_tree.specs.declared.expr.ExprOf.{ExprOf}
 use Rattle.dbpl_tree.specs.declared.expr.ExprsOf.{ExprsOf}
 use Rattle.dbpl_tree.specs.declared.factor.Factor.{Factor, Factor-F, out-Factor}
+use Rattle.dbpl_tree.specs.declared.factor.Factor.TheVariants as factors
 use Rattle.dbpl_rules_operators.specs.Operators.{compared, signed}
 use Rattle.dbpl_symbols.specs.declared.decl.Decl.{Decl}
 use Rattle.dbpl_tree.specs.declared.operators.SignOperator.{SignOperator}
@@ -446,6 +448,12 @@ kind_by d place decl result other old middle new at met also same =
     answered (kind_judged old.setting d) result other old new same
     ((then) (alone_judged old.setting d) (λ setting. kind (designator_place d)) decl other old middle new met
     (subst (λ (one : Place). Judges (of (kind one) decl) other middle new) at also))
+
+pub designator_opened :
+    (f : Factor) (d : DesignatorOf Factor) (a : Option (ArgumentsOf Factor)) → f ≡ factors.Designator d a →
+    out-Factor f ≡ forms.Factor::Designator d a
+designator_opened f d a is =
+    ap out-Factor (is ∙ sym (factors.rolls-Designator d a)) ∙ out-roll-Factor (forms.Factor::Designator d a)
 
 operand_level :
     (setting : Setting) (level : Factor-F Element Factor Range Aggregate Each) (d : DesignatorOf Factor)

@@ -72,11 +72,13 @@ fn judge_opened(alloc: Global, checker: &mut Checker, f: &Factor) -> Result<Opti
         Factor::CharCode(place, code) => character(alloc, checker, *place, *code),
         Factor::Text(place, bytes) => text(alloc, checker, *place, bytes),
         Factor::Aggregate(a) => judge_aggregate(alloc, checker, a.get()),
-        Factor::Designator(d, None) => judge_operand(alloc, checker, d),
-        Factor::Designator(d, Some(a)) => {
-            let decl = judge_callee(alloc, checker, d)?;
-            judge_call(alloc, checker, d.place(), decl, a.get())
-        }
+        Factor::Designator(d, a) => match a {
+            Some(a) => {
+                let decl = judge_callee(alloc, checker, d)?;
+                judge_call(alloc, checker, d.place(), decl, a.get())
+            }
+            None => judge_operand(alloc, checker, d),
+        },
         Factor::Parenthesized(place, e) => judge_parenthesized(alloc, checker, *place, e.get()),
         Factor::Not(place, _, f) => judge_negated(alloc, checker, *place, f.get()),
         Factor::Quantified(_, _, _, _, _) => {

@@ -5,14 +5,13 @@ use Rattle.dbpl_judging.specs.Judgements.{breaks, good, of}
 use Rattle.dbpl_judging.specs.Judging.{Judges}
 use Rattle.dbpl_rules_calls.specs.Arguments.{characters_argument, counted_argument, kind_argument, standard_argument, value_argument, variable_argument}
 use Rattle.dbpl_rules_calls.specs.declared.asked.Asked.TheVariants as places
-use Rattle.dbpl_rules_expr.proofs.Phrases.{aggregate_by, alone_by, argument_by, call_made, call_opened, callee_by, compared_by, element_met, factor_met, kind_by, lone_met, more_parts, next_at, next_of_list, nothing_met, operand_opened, other_met, signed_by, subscripts_by, target_by, unasked_met, whole_by}
+use Rattle.dbpl_rules_expr.proofs.Phrases.{aggregate_by, alone_by, argument_by, call_made, call_opened, callee_by, compared_by, designator_opened, element_met, factor_met, kind_by, lone_met, more_parts, next_at, next_of_list, nothing_met, operand_opened, other_met, signed_by, subscripts_by, target_by, unasked_met, whole_by}
 use Rattle.dbpl_rules_expr.specs.Expressions.{argument_at, factor_value, first_judged, indices_judged, judge_element, kind_given, part_judged, simple_judged, target_given, term_judged, variable_given}
 use Rattle.dbpl_rules_expr.specs.Expressions.{judge_expr as expr_judged}
 use Rattle.dbpl_rules_expr.specs.Productions.{multiplied, summed}
 use Rattle.dbpl_rules_expr.specs.Reaching.{reach}
 use Rattle.dbpl_rules_operators.specs.Operators.{negated}
 use Rattle.dbpl_tree.specs.Plain.{arguments_in}
-use Rattle.dbpl_tree.specs.declared.factor.Factor.{out-Factor}
 use Rattle.dbpl_value.specs.declared.db_type.DbType
 use Rattle.dbpl_rules_expr.proofs.expressions.+judged_phrases.Goals as goal
 
@@ -197,19 +196,12 @@ judge_negated-returns t c =
     then (factor_value c.args.checker.now.setting c.args.f.now) (λ setting. negated c.args.place) c.in_ok-e.e c.negated.result
     c.args.checker.now c.judge_factor.new.checker c.negated.new.checker c.in_ok-e.ensures c.negated.ensures
 
-pub judge_opened-returns-in-Designator-default-None : goal.judge_opened-returns-in-Designator-default-None
-judge_opened-returns-in-Designator-default-None t c =
-    operand_opened c.args.f.now c.in-Designator-default-None.d c.in-Designator-default-None.field-1 c.judge_operand.result
-    c.args.checker.now c.judge_operand.new.checker (ap out-Factor c.in-Designator-default-None.is) c.in-Designator-default-None.field-1-is
-    c.judge_operand.ensures
-
-pub judge_opened-returns-in_ok-decl-in-Designator-default-Some : goal.judge_opened-returns-in_ok-decl-in-Designator-default-Some
-judge_opened-returns-in_ok-decl-in-Designator-default-Some t c =
-    call_opened c.args.f.now c.in-Designator-default-Some.d c.in-Designator-default-Some.field-1
-    c.get-in-Designator-default-Some.result.now c.place.result c.in_ok-decl-in-Designator-default-Some.decl c.judge_call.result
-    c.args.checker.now c.judge_callee.new.checker c.judge_call.new.checker (ap out-Factor c.in-Designator-default-Some.is)
-    (c.in-Designator-default-Some.field-1-is ∙ ap Some (sym c.get-in-Designator-default-Some.ensures)) c.place.ensures
-    c.in_ok-decl-in-Designator-default-Some.ensures c.judge_call.ensures
+pub judge_opened-returns-in_ok-decl-in-Some : goal.judge_opened-returns-in_ok-decl-in-Some
+judge_opened-returns-in_ok-decl-in-Some t c =
+    call_opened c.args.f.now c.in-Designator.d c.in-Designator.a c.get-in-Some.result.now c.place.result c.in_ok-decl-in-Some.decl
+    c.judge_call.result c.args.checker.now c.judge_callee.new.checker c.judge_call.new.checker
+    (designator_opened c.args.f.now c.in-Designator.d c.in-Designator.a c.in-Designator.is)
+    (c.in-Some.is ∙ ap Some (sym c.get-in-Some.ensures)) c.place.ensures c.in_ok-decl-in-Some.ensures c.judge_call.ensures
 
 pub judge_part-returns-in_ok-before-in-Subscripts : goal.judge_part-returns-in_ok-before-in-Subscripts
 judge_part-returns-in_ok-before-in-Subscripts t c =
