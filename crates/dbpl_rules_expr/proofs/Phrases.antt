@@ -19,7 +19,7 @@ use Rattle.dbpl_judging.specs.declared.setting.Setting.{Setting}
 use Rattle.dbpl_judging.specs.declared.typed.Typed.{Typed}
 use Rattle.dbpl_rules_expr.proofs.Levels.{aggregate-out, element-out, factor-out}
 use Rattle.dbpl_rules_expr.specs.Aggregates.{brace_named, counted_kind, packed}
-use Rattle.dbpl_rules_expr.specs.Calls.{Designated, callee, is_lone, of_nothing, or_breaks}
+use Rattle.dbpl_rules_expr.specs.Calls.{Designated, callee, is_lone, or_breaks}
 use Rattle.dbpl_rules_calls.specs.Results.{called, function_rules}
 use Rattle.dbpl_rules_calls.specs.declared.argument.Argument.{Argument}
 use Rattle.dbpl_rules_calls.specs.declared.asked.Asked.{Asked}
@@ -28,7 +28,7 @@ use Rattle.dbpl_rules_calls.specs.declared.argument.Argument.TheVariants as argu
 use Rattle.dbpl_rules_expr.specs.Expressions.{alone_judged, argument_at, argument_judged, call_judged, callee_judged, changed_judged, element_opened, elements_judged, exprs_judged, factor_opened, factor_value, first_judged, given_judged, indices_judged, judge_aggregate, judge_element, judge_expr, judge_factor, judging, kind_judged, lone_designator, lone_level, named_by, nothing_given, operand_judged, part_judged, parts_judged, simple_judged, target_judged, term_judged, unasked_judged, whole_judged}
 use Rattle.dbpl_rules_expr.specs.Designators.{at_subscripts, begun, built, denoted_by, kind, kind_behind, part_of, reached, variable_named}
 use Rattle.dbpl_rules_expr.specs.Names.{whole_name}
-use Rattle.dbpl_rules_expr.specs.Productions.{aggregate_value, called_or_not, designated, element_value, factor_given, relation_of, sign_of, signed_term, with_right}
+use Rattle.dbpl_rules_expr.specs.Productions.{aggregate_value, called_or_not, designated, factor_given, relation_of, sign_of, signed_term, with_right}
 use Rattle.dbpl_rules_expr.specs.Reaching.{Reaches, reach}
 use Rattle.dbpl_rules_expr.specs.declared.reached.Reached.{Reached}
 use Rattle.dbpl_tree.specs.FirstTokens.{designator_place, qual_place}
@@ -39,7 +39,7 @@ use Rattle.dbpl_tree.specs.declared.designator.DesignatorOf.{DesignatorOf}
 use Rattle.dbpl_tree.specs.declared.designator.PartOf.{PartOf}
 use Rattle.dbpl_tree.specs.declared.designator.PartOf.TheVariants as parts
 use Rattle.dbpl_tree.specs.declared.each.Each.{Each}
-use Rattle.dbpl_tree.specs.declared.element.Element.{Element, out-Element}
+use Rattle.dbpl_tree.specs.declared.element.Element.{Element}
 use Rattle.dbpl_tree.specs.declared.element.Element.TheOpen as forms
 use Rattle.dbpl_tree.specs.declared.element.Element.TheViews.{out-roll-Factor}
 use Rattle.dbpl_tree.specs.declared.expr.ComparedOf.{ComparedOf}
@@ -140,7 +140,7 @@ pub unasked_met :
     Some d ≡ lone_designator e → Judges (unasked_judged old.setting d) result old new →
     Judges (nothing_given old.setting e) result old new
 unasked_met e d result old new is =
-    let otherwise : Judged (Unit {0}) = made (λ value. tt { 0 }) (judge_expr old.setting e) in
+    let otherwise : Judged (Unit {0}) = made (λ value. tt {0}) (judge_expr old.setting e) in
     moved (nothing_given old.setting e) (unasked_judged old.setting d) result old new
     (ap (λ (found : Option Designated). made (λ none. arguments.Nothing) (option_map_or (λ one. one.unasked) found otherwise))
     (lone old.setting e (Some d) is))
@@ -153,7 +153,7 @@ pub made_met :
 made_met make judged core answer old new met is = (is ∙ ap (option_map make) met.0, met.1)
 
 twice : {A : Type 0} (core : Option A) →
-    option_map (λ known. arguments.Nothing) core ≡ option_map (λ none. arguments.Nothing) (option_map (λ known. tt { 0 }) core)
+    option_map (λ known. arguments.Nothing) core ≡ option_map (λ none. arguments.Nothing) (option_map (λ known. tt {0}) core)
 twice None = refl
 twice (Some known) = refl
 
@@ -162,11 +162,11 @@ pub nothing_met :
     Judges (judge_expr old.setting e) (Ok core) old new → answer ≡ option_map (λ known. arguments.Nothing) core →
     Judges (nothing_given old.setting e) (Ok answer) old new
 nothing_met e core answer old new is met made_of =
-    let otherwise : Judged (Unit {0}) = made (λ value. tt { 0 }) (judge_expr old.setting e) in
+    let otherwise : Judged (Unit {0}) = made (λ value. tt {0}) (judge_expr old.setting e) in
     moved (nothing_given old.setting e) (made (λ none. arguments.Nothing) otherwise) (Ok answer) old new
     (ap (λ (found : Option Designated). made (λ none. arguments.Nothing) (option_map_or (λ one. one.unasked) found otherwise))
     (lone old.setting e None is))
-    (made_of ∙ twice core ∙ ap (λ (part : Option Typed). option_map (λ none. arguments.Nothing) (option_map (λ known. tt { 0 }) part)) met.0, met.1)
+    (made_of ∙ twice core ∙ ap (λ (part : Option Typed). option_map (λ none. arguments.Nothing) (option_map (λ known. tt {0}) part)) met.0, met.1)
 
 pub made_answered :
     {A B : Type 0} (make : A → B) (judged : Judged A) (core : Option A) (result : Result (Option B) Memory) (old new : Checking) →
@@ -187,12 +187,12 @@ no_constant constant judged result old new is met =
 pub operand_unasked :
     (named : Bool) (judged : Judged Typed) (core : Option Typed) (answer : Option Argument) (old new : Checking) →
     false ≡ named → Judges judged (Ok core) old new → answer ≡ option_map (λ known. arguments.Nothing) core →
-    Judges (made (λ none. arguments.Nothing) (if named then good tt else made (λ known. tt { 0 }) judged)) (Ok answer) old new
+    Judges (made (λ none. arguments.Nothing) (if named then good tt else made (λ known. tt {0}) judged)) (Ok answer) old new
 operand_unasked named judged core answer old new is met made_of =
-    moved (made (λ none. arguments.Nothing) (if named then good tt else made (λ known. tt { 0 }) judged))
-    (made (λ none. arguments.Nothing) (made (λ known. tt { 0 }) judged)) (Ok answer) old new
-    (ap (λ (one : Bool). made (λ none. arguments.Nothing) (if one then good tt else made (λ known. tt { 0 }) judged)) (sym is))
-    (made_of ∙ twice core ∙ ap (λ (part : Option Typed). option_map (λ none. arguments.Nothing) (option_map (λ known. tt { 0 }) part)) met.0, met.1)
+    moved (made (λ none. arguments.Nothing) (if named then good tt else made (λ known. tt {0}) judged))
+    (made (λ none. arguments.Nothing) (made (λ known. tt {0}) judged)) (Ok answer) old new
+    (ap (λ (one : Bool). made (λ none. arguments.Nothing) (if one then good tt else made (λ known. tt {0}) judged)) (sym is))
+    (made_of ∙ twice core ∙ ap (λ (part : Option Typed). option_map (λ none. arguments.Nothing) (option_map (λ known. tt {0}) part)) met.0, met.1)
 
 -- two phrases side by side, and what is made of both
 pub made_of_both :

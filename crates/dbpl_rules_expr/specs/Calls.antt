@@ -1,5 +1,5 @@
 -- Calls: what stands between their parentheses, place by place.
-use Rattle.std.specs.Prelude.{ℕ, Bool, not, ◌&&◌, if◌then◌else◌, is_some, List, length, slice_get, unwrap_or, Option, Some, None}
+use Rattle.std.specs.Prelude.{ℕ, Bool, not, ◌&&◌, if◌then◌else◌, is_some, List, length, slice_get, unwrap_or, Option, None}
 use Rattle.std.specs.Option.{option_map_or}
 use Rattle.dbpl_base.specs.declared.place.Place.{Place}
 use Rattle.dbpl_judging.specs.Judgements.{Judged, both, breaks, each_at, good, made, of, ◌>>=◌, ◌>>?◌}

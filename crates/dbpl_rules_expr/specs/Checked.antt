@@ -13,11 +13,12 @@ use Rattle.dbpl_tree.specs.declared.expr.ExprOf.{ExprOf}
 use Rattle.dbpl_tree.specs.declared.factor.Factor.{Factor}
 
 -- THE contract of a function that checks a phrase to which nothing was noted before. Unless memory is wanted, it answers what the
--- phrase resolves to where that breaks no rule, and else the least of its breaches. Where no rule is broken the checker is
--- then as `behind`.
+-- phrase resolves to where that breaks no rule, and else the least of its breaches. The checker is then in the setting of
+-- `behind`, and where no rule is broken it is `behind`.
 abbrev pub IsChecked : {A : Type 0} → Judged A → Checking → Result A RuleErr → Checking → Type 0
 IsChecked judged behind (Ok found) new = (judged.breaches ≡ []) × (judged.core ≡ Some found) × (new ≡ behind)
-IsChecked judged behind (Err (errors.Breach breach)) new = least judged.breaches ≡ Some breach
+IsChecked judged behind (Err (errors.Breach breach)) new =
+    (least judged.breaches ≡ Some breach) × (new.setting ≡ behind.setting)
 IsChecked judged behind (Err errors.Memory) new = Unit {0}
 
 -- THE same of what declares: where it breaks no rule the checker is in the scope that it leaves

@@ -1,5 +1,5 @@
 -- What a name of a phrase means. A module's name and the name behind the dot are one name, which begins at the first.
-use Rattle.std.specs.Prelude.{ℕ, Bool, true, false, List, [], ◌∷◌, Option, Some, None, if◌then◌else◌, option_and_then}
+use Rattle.std.specs.Prelude.{ℕ, Bool, true, false, List, ◌∷◌, Option, Some, None, if◌then◌else◌, option_and_then}
 use Rattle.dbpl_base.specs.declared.place.Place.{Place}
 use Rattle.dbpl_judging.specs.Judgements.{Judged, breaks, good, silent, ◌>>=◌}
 use Rattle.dbpl_judging.specs.declared.setting.Setting.{Setting}

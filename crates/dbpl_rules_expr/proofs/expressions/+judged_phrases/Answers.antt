@@ -1,12 +1,12 @@
-use Rattle.std.proofs.Common.{rules, ◌≡◌, ◌+◌, ◌<◌, List, [], ◌∷◌, length, get_or, Option, Some, None, Ok, refl, ap, sym, subst, ◌∙◌}
+use Rattle.std.proofs.Common.{◌≡◌, ◌+◌, ◌<◌, length, get_or, Some, Ok, refl, ap, sym, subst, ◌∙◌}
 use Rattle.std.specs.Option.{option_copied}
 use Rattle.dbpl_judging.proofs.Sequence.{one_more, one_more_of_list, then}
 use Rattle.dbpl_judging.specs.Judgements.{breaks, good, of}
 use Rattle.dbpl_judging.specs.Judging.{Judges}
 use Rattle.dbpl_rules_calls.specs.Arguments.{characters_argument, counted_argument, kind_argument, standard_argument, value_argument, variable_argument}
 use Rattle.dbpl_rules_calls.specs.declared.asked.Asked.TheVariants as places
-use Rattle.dbpl_rules_expr.proofs.Phrases.{aggregate_by, alone_by, argument_by, call_made, call_opened, callee_by, compared_by, designator_opened, element_met, factor_met, kind_by, lone_met, more_parts, next_at, next_of_list, nothing_met, operand_opened, other_met, signed_by, subscripts_by, target_by, unasked_met, whole_by}
-use Rattle.dbpl_rules_expr.specs.Expressions.{argument_at, factor_value, first_judged, indices_judged, judge_element, kind_given, part_judged, simple_judged, target_given, term_judged, variable_given}
+use Rattle.dbpl_rules_expr.proofs.Phrases.{aggregate_by, alone_by, argument_by, call_made, call_opened, callee_by, compared_by, designator_opened, element_met, factor_met, kind_by, lone_met, more_parts, next_at, next_of_list, nothing_met, other_met, signed_by, subscripts_by, target_by, unasked_met, whole_by}
+use Rattle.dbpl_rules_expr.specs.Expressions.{argument_at, factor_value, first_judged, indices_judged, judge_element, kind_given, part_judged, target_given, term_judged, variable_given}
 use Rattle.dbpl_rules_expr.specs.Expressions.{judge_expr as expr_judged}
 use Rattle.dbpl_rules_expr.specs.Productions.{multiplied, summed}
 use Rattle.dbpl_rules_expr.specs.Reaching.{reach}
@@ -80,10 +80,10 @@ pub judge_arguments-loop-e-preserved : goal.judge_arguments-loop-e-preserved
 judge_arguments-loop-e-preserved t c = (
   c.in_ok-number.ensures ∙ ap (λ n. n + 1) c.loop-e.invariant.0,
   next_at (λ setting. argument_at c.args.decl.now c.args.count setting) c.args.es.now.first c.args.es.now.others c.loop-e.e-index
-  c.loop-e.number c.e-item.result c.loop-e.list c.judge_argument_at.result c.in_ok-list-2.list c.args.checker.now c.loop-e.checker
-  c.judge_argument_at.new.checker (subst (λ items. c.loop-e.e-index < length items) c.as_slice-e-items.ensures c.loop-e-test.true)
-  c.loop-e.invariant.0 (subst (λ items. c.e-item.result ≡ get_or items c.loop-e.e-index c.e-item.result) c.as_slice-e-items.ensures c.e-item.is)
-  c.loop-e.invariant.1 c.judge_argument_at.ensures c.in_ok-list-2.ensures.ok,
+      c.loop-e.number c.e-item.result c.loop-e.list c.judge_argument_at.result c.in_ok-list-2.list c.args.checker.now c.loop-e.checker
+      c.judge_argument_at.new.checker (subst (λ items. c.loop-e.e-index < length items) c.as_slice-e-items.ensures c.loop-e-test.true)
+      c.loop-e.invariant.0 (subst (λ items. c.e-item.result ≡ get_or items c.loop-e.e-index c.e-item.result) c.as_slice-e-items.ensures c.e-item.is)
+      c.loop-e.invariant.1 c.judge_argument_at.ensures c.in_ok-list-2.ensures.ok,
 )
 
 pub judge_as_kind-returns-in-Some : goal.judge_as_kind-returns-in-Some

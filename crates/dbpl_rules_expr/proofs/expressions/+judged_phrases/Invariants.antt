@@ -1,8 +1,7 @@
 use Rattle.std.proofs.Common.{◌≡◌, ◌*◌, ◌+◌, ◌∷◌, take, Ok}
-use Rattle.std.specs.List.{fold}
 use Rattle.dbpl_judging.specs.Judgements.{each, each_at, folded, good, of}
 use Rattle.dbpl_judging.specs.Judging.{Judges}
-use Rattle.dbpl_rules_expr.specs.Expressions.{argument_at, elements_judged, exprs_judged, factor_value, first_judged, indices_judged, part_judged, parts_judged, term_judged}
+use Rattle.dbpl_rules_expr.specs.Expressions.{argument_at, elements_judged, exprs_judged, factor_value, first_judged, indices_judged, parts_judged, term_judged}
 use Rattle.dbpl_rules_expr.specs.Productions.{multiplied, summed}
 use Rattle.dbpl_rules_expr.specs.Reaching.{reach}
 use Rattle.dbpl_rules_expr.proofs.expressions.+judged_phrases.Given as goal
