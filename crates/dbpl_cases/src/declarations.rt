@@ -180,14 +180,62 @@ fn declare_routines(alloc: Global, checker: &mut Checker) -> Result<(), Memory> 
     declare_routine(alloc, checker, "v", &[(true, Sample::Cardinal)], number)?;
     declare_routine(alloc, checker, "p", &[(false, Sample::Cardinal)], None)?;
     declare_routine(alloc, checker, "z", &[], number)?;
-    declare_routine(alloc, checker, "fi", &[(false, Sample::Integer)], Some(Sample::Integer))?;
-    declare_routine(alloc, checker, "fs", &[(false, Sample::Small)], Some(Sample::Small))?;
-    declare_routine(alloc, checker, "fl", &[(false, Sample::Letter)], Some(Sample::Letter))?;
-    declare_routine(alloc, checker, "fe", &[(false, Sample::Color)], Some(Sample::Color))?;
-    declare_routine(alloc, checker, "fb", &[(false, Sample::Boolean)], Some(Sample::Boolean))?;
-    declare_routine(alloc, checker, "fr", &[(false, Sample::Pair)], Some(Sample::Pair))?;
-    declare_routine(alloc, checker, "fm", &[(false, Sample::Marks)], Some(Sample::Three))?;
-    declare_routine(alloc, checker, "fq", &[(false, Sample::Pairs)], Some(Sample::Pairs))?;
+    declare_routine(
+        alloc,
+        checker,
+        "fi",
+        &[(false, Sample::Integer)],
+        Some(Sample::Integer),
+    )?;
+    declare_routine(
+        alloc,
+        checker,
+        "fs",
+        &[(false, Sample::Small)],
+        Some(Sample::Small),
+    )?;
+    declare_routine(
+        alloc,
+        checker,
+        "fl",
+        &[(false, Sample::Letter)],
+        Some(Sample::Letter),
+    )?;
+    declare_routine(
+        alloc,
+        checker,
+        "fe",
+        &[(false, Sample::Color)],
+        Some(Sample::Color),
+    )?;
+    declare_routine(
+        alloc,
+        checker,
+        "fb",
+        &[(false, Sample::Boolean)],
+        Some(Sample::Boolean),
+    )?;
+    declare_routine(
+        alloc,
+        checker,
+        "fr",
+        &[(false, Sample::Pair)],
+        Some(Sample::Pair),
+    )?;
+    declare_routine(
+        alloc,
+        checker,
+        "fm",
+        &[(false, Sample::Marks)],
+        Some(Sample::Three),
+    )?;
+    declare_routine(
+        alloc,
+        checker,
+        "fq",
+        &[(false, Sample::Pairs)],
+        Some(Sample::Pairs),
+    )?;
     declare_routine(alloc, checker, "ft", &[(false, Sample::Letters)], number)?;
     declare_routine(alloc, checker, "va", &[(true, Sample::Three)], number)?;
     declare_routine(alloc, checker, "vb", &[(true, Sample::Boolean)], number)?;

@@ -10,7 +10,12 @@ use std::alloc::Global;
 pub(crate) fn declare_in_out(alloc: Global, checker: &mut Checker) -> Result<(), Memory> {
     let exports = in_out(alloc)?;
     for shown in exports.pairs.as_slice() {
-        checker.declare(alloc, &shown.name, copy_decl(&shown.decl)?, Origin::Imported)?;
+        checker.declare(
+            alloc,
+            &shown.name,
+            copy_decl(&shown.decl)?,
+            Origin::Imported,
+        )?;
     }
     let unit = Decl::Unit(Shared::new(alloc, exports)?);
     checker.declare(alloc, &name_of(alloc, b"InOut")?, unit, Origin::Imported)
@@ -29,7 +34,12 @@ fn other_pairs(alloc: Global) -> Result<List<Pair>, Memory> {
     let mut pairs = List::new(alloc);
     show(alloc, &mut pairs, "c", other_variable(alloc)?)?;
     show(alloc, &mut pairs, "k", Decl::Whole(3))?;
-    show(alloc, &mut pairs, "R", Decl::Kind(shared_type(alloc, Sample::Pair)?))?;
+    show(
+        alloc,
+        &mut pairs,
+        "R",
+        Decl::Kind(shared_type(alloc, Sample::Pair)?),
+    )?;
     let params = [(false, Sample::Cardinal)];
     let function = routine(alloc, "Other", "f", &params, Some(Sample::Cardinal))?;
     show(alloc, &mut pairs, "f", function)?;
