@@ -279,17 +279,25 @@ fn show_call(out: &mut String, call: &CoreCall) -> Result<(), Memory> {
 
 #[cycle(shown_trees)]
 fn show_arguments(out: &mut String, arguments: &[CoreArgument]) -> Result<(), Memory> {
-    let mut before = "";
+    let mut first = true;
     for argument in arguments {
-        show_argument(out, before, argument)?;
-        before = ", ";
+        separate(out, first)?;
+        show_argument(out, argument)?;
+        first = false;
+    }
+    Ok(())
+}
+
+/// A comma, but none before the first.
+fn separate(out: &mut String, first: bool) -> Result<(), Memory> {
+    if !first {
+        out.push_str(", ")?;
     }
     Ok(())
 }
 
 #[cycle(shown_trees)]
-fn show_argument(out: &mut String, before: &str, argument: &CoreArgument) -> Result<(), Memory> {
-    out.push_str(before)?;
+fn show_argument(out: &mut String, argument: &CoreArgument) -> Result<(), Memory> {
     match argument {
         CoreArgumentOf::Value(e) => show_expr(out, e),
         CoreArgumentOf::Variable(d) => {
