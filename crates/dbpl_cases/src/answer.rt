@@ -12,8 +12,8 @@ use dbpl_tree::Expr;
 use std::alloc::Global;
 use std::fmt::Write;
 
-/// The unit whose text an expression is. It is not the first one, so that the front of the first, where a form is refused
-/// that isn't built yet, is no place of an expression.
+/// The unit whose text an expression is. It is not the first one, so that the front of the first, where a form is
+/// refused that isn't built yet, is no place of an expression.
 pub(crate) const UNIT: u8 = 1;
 
 /// What the scanner, the parser and the rules make of this text, in the notation of the table.

@@ -1,8 +1,8 @@
-//! Tries expressions on the rules. Each line of the input is an answer, a tabulator and an expression, which is judged over
-//! the scope of `declarations.rt`; lines without a tabulator are headings. The answer is the rule that the expression breaks
-//! first and the column; `silent` where it breaks none and a name in it was refused; or `ok` and, as far as the line says,
-//! what is known of it (its type and number, then its place) and its resolved form. Prints each line that is answered
-//! otherwise, and in the end how many there were.
+//! Tries expressions on the rules. Each line of the input is an answer, a tabulator and an expression, which is judged
+//! over the scope of `declarations.rt`; lines without a tabulator are headings. The answer is the rule that the
+//! expression breaks first and the column; `silent` where it breaks none and a name in it was refused; or `ok` and, as
+//! far as the line says, what is known of it (its type and number, then its place) and its resolved form. Prints each
+//! line that is answered otherwise, and in the end how many there were.
 #![tactic(auto)]
 
 mod answer;

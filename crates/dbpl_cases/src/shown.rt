@@ -1,5 +1,5 @@
-//! How a resolved expression is written in an answer: each form by its word, behind `@` its places, and in parentheses its
-//! parts.
+//! How a resolved expression is written in an answer: each form by its word, behind `@` its places, and in parentheses
+//! its parts.
 use crate::notation::{show_name, show_place, show_range, show_type};
 use dbpl_base::{Memory, Name, Place, Shared};
 use dbpl_core::{
