@@ -32,7 +32,7 @@ by_least :
     Left judged found behind new → noted ≡ least judged.breaches → Answers noted found result → IsChecked judged behind result new
 by_least judged found behind new (Some breach) result judges is answers =
     subst (λ one. IsChecked judged behind one new) (sym answers)
-    (sym is, ap (λ (checker : Checking). checker.setting) judges.1)
+    (sym is, judges.1)
 by_least judged (Some core) behind new None result judges is answers =
     let none : judged.breaches ≡ [] = none_least judged.breaches (sym is) in
     subst (λ one. IsChecked judged behind one new) (sym answers)

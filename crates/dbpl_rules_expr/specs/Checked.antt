@@ -2,7 +2,7 @@
 use Rattle.std.specs.Prelude.{◌≡◌, [], Option, Some, None, Result, Ok, Err}
 use Rattle.dbpl_base.specs.declared.refusal.Refusal.{Refusal}
 use Rattle.dbpl_core.specs.declared.expr.CoreExpr.{CoreExpr}
-use Rattle.dbpl_judging.specs.Checking.{Checking, least}
+use Rattle.dbpl_judging.specs.Checking.{Checking, least, noting}
 use Rattle.dbpl_judging.specs.Judgements.{Judged, made}
 use Rattle.dbpl_judging.specs.Stages.{Staged, in_scope}
 use Rattle.dbpl_judging.specs.declared.setting.Setting.{Setting}
@@ -13,12 +13,12 @@ use Rattle.dbpl_tree.specs.declared.expr.ExprOf.{ExprOf}
 use Rattle.dbpl_tree.specs.declared.factor.Factor.{Factor}
 
 -- THE contract of a function that checks a phrase to which nothing was noted before. Unless memory is wanted, it answers what the
--- phrase resolves to where that breaks no rule, and else the least of its breaches. The checker is then in the setting of
--- `behind`, and where no rule is broken it is `behind`.
+-- phrase resolves to where that breaks no rule, and else the least of its breaches. The checker is then `behind` with all of them
+-- noted, which is `behind` where no rule is broken.
 abbrev pub IsChecked : {A : Type 0} → Judged A → Checking → Result A RuleErr → Checking → Type 0
 IsChecked judged behind (Ok found) new = (judged.breaches ≡ []) × (judged.core ≡ Some found) × (new ≡ behind)
 IsChecked judged behind (Err (errors.Breach breach)) new =
-    (least judged.breaches ≡ Some breach) × (new.setting ≡ behind.setting)
+    (least judged.breaches ≡ Some breach) × (new ≡ noting judged.breaches behind)
 IsChecked judged behind (Err errors.Memory) new = Unit {0}
 
 -- THE same of what declares: where it breaks no rule the checker is in the scope that it leaves

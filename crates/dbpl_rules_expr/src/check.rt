@@ -22,7 +22,8 @@ pub fn answered<A: Drop>(checker: &Checker, found: Option<A>) -> Result<A, RuleE
     }
 }
 
-/// The expression as it goes on from the rules, or its least breach. The scope is as before. Want of memory is free.
+/// The expression as it goes on from the rules, or its least breach; the scope is then as before. Want of memory is free, and
+/// nothing is said of the checker after it.
 pub fn check_expr(alloc: Global, checker: &mut Checker, e: &Expr) -> Result<CoreExpr, RuleErr>
     requires known { IsKnown checker.old.setting.scope }
     requires first { checker.old.least ≡ None }
