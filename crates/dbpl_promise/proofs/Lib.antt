@@ -6,6 +6,7 @@ pub mod InFront
 pub mod Leaving
 pub mod Mounted
 pub mod Stages
+pub mod Still
 pub mod Stopped
 pub mod Together
 pub mod Unasked
