@@ -1,7 +1,6 @@
 -- A command whose first stages were passed, and that then kept the promise of the others, kept the promise of all.
-use Rattle.std.proofs.Common.{◌≡◌, ◌⊎◌, ℕ, List, IsTrue, inl, inr, subst}
+use Rattle.std.proofs.Common.{◌⊎◌, ℕ, List, IsTrue, inl, inr, subst}
 use Rattle.dbpl_base.specs.declared.status.Status.{Status}
-use Rattle.dbpl_base.specs.declared.status.Status.TheVariants as status
 use Rattle.dbpl_promise.proofs.Leaving.{alone_more}
 use Rattle.dbpl_promise.specs.Promises.{Answered, LeavesAlone, Promise}
 use Rattle.dbpl_promise.specs.Refusals.{is_refusal}

@@ -5,6 +5,7 @@ pub mod Headline
 pub mod InFront
 pub mod Leaving
 pub mod Mounted
+pub mod Rows
 pub mod Stages
 pub mod Still
 pub mod Stopped

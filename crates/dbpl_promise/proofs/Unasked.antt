@@ -1,5 +1,5 @@
 -- No command that was asked for answers bad words, and one that answers an end has passed all its stages.
-use Rattle.std.proofs.Common.{◌≡◌, ◌⊎◌, ap, inl, inr}
+use Rattle.std.proofs.Common.{ap, inl, inr}
 use Rattle.dbpl_base.specs.declared.status.Status.{Status}
 use Rattle.dbpl_base.specs.declared.status.Status.TheVariants as status
 use Rattle.dbpl_core.specs.Outcomes.{TellsOfEnd}
