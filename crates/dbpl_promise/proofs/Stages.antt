@@ -51,7 +51,7 @@ unopened_kind name work status.NotStore is = refl
 unopened_kind name work (status.Damaged page) is = refl
 unopened_kind name work _ is = absurd is
 
-disk_kind : (work : Work) (answer : Status) → disk_faults work answer → kind_of answer ≡ Fault
+pub disk_kind : (work : Work) (answer : Status) → disk_faults work answer → kind_of answer ≡ Fault
 disk_kind work status.DiskFault rose = refl
 disk_kind work _ rose = absurd rose
 
