@@ -239,34 +239,37 @@ module _ (store : List ℕ) (stored : StoredProgram) (work : Work) (mid : Histor
         binds = refl;
       }
 
-  due : (r : Result (Unit {0}) StopErr) → result ≡ r → TellsOfRun stored r answer → MayAnswer (over_store store stored >>= ended) work answer
+  abbrev IsAnswer : Status → Type 0
+  IsAnswer answered = MayAnswer (over_store store stored >>= ended) work answered
+
+  due : (r : Result (Unit {0}) StopErr) → result ≡ r → TellsOfRun stored r answer → IsAnswer answer
   due (Ok done) e told =
-      subst MayAnswer (over_store store stored >>= ended) work (sym told) (inl (inr (ends_with Ended status.Done refl
+      subst IsAnswer (sym told) (inl (inr (ends_with Ended status.Done refl
       (on_ok (Ok done) refl (subst (λ (r : Result (Unit {0}) StopErr). OnOk r (ran.HasRun stored Ended work.tells mid work.after)) e run.ended)))))
   due (Err (errors.Trapped trap)) e told =
-      subst MayAnswer (over_store store stored >>= ended) work (sym told) (inl (inr (ends_with (Trapped trap) (status.Trapped trap.kind trap.place) refl (run.trapped trap e))))
+      subst IsAnswer (sym told) (inl (inr (ends_with (Trapped trap) (status.Trapped trap.kind trap.place) refl (run.trapped trap e))))
   due (Err errors.NotStore) e told =
-      subst MayAnswer (over_store store stored >>= ended) work (sym told) (inl (inl (inl (inl (λ tells.
+      subst IsAnswer (sym told) (inl (inl (inl (inl (λ tells.
       subst (λ (d : Store). HasHead d.log.now → ⊥) (disk tells) (run.not_store tells e))))))
   due (Err (errors.Damaged page)) e told =
-      subst MayAnswer (over_store store stored >>= ended) work (sym told) (inl (inl (inl (inl (λ tells. let found = run.damaged tells page e in record {
+      subst IsAnswer (sym told) (inl (inl (inl (inl (λ tells. let found = run.damaged tells page e in record {
         head = subst (λ (d : Store). HasHead d.log.now) (disk tells) found.1;
         none = subst (λ (d : Store). stands d.log.now d.pages.now ≡ None) (disk tells) found.2;
         first = found.0;
       })))))
   due (Err errors.SchemaDiffers) e (inl told) =
       let other = run.differs e in
-      subst MayAnswer (over_store store stored >>= ended) work (sym told) (inl (inl (inl (inr (
+      subst IsAnswer (sym told) (inl (inl (inl (inr (
         other.database,
         (λ tells. reads_there tells other.database (other.stood tells)),
         inl (inl (refl, other.differs)),
       )))))
   due (Err errors.SchemaDiffers) e (inr told) = inr (inr told)
   due (Err errors.DiskFault) e told =
-      subst MayAnswer (over_store store stored >>= ended) work (sym told) (inr (inl (inl (inl (subst (λ (n : ℕ). Rose n work.counts_after.disk_faults) disk_same (run.disk_fault e))))))
+      subst IsAnswer (sym told) (inr (inl (inl (inl (subst (λ (n : ℕ). Rose n work.counts_after.disk_faults) disk_same (run.disk_fault e))))))
   due (Err errors.OutFault) e told =
       let over = over_bound e in
-      subst MayAnswer (over_store store stored >>= ended) work (sym told) (inr (inl (inr (
+      subst IsAnswer (sym told) (inr (inl (inr (
         run_of store stored over.database over.bound,
         passes over.database over.bound over.reads over.binds,
         inl (subst (λ (n : ℕ). Rose n work.counts_after.say_faults) say_same (run.out_fault e)),

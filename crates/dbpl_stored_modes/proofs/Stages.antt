@@ -246,7 +246,7 @@ module _ (store schema program : List ℕ) where
 
   reads : (work : Work) (run : Run) (over : List ℕ) → IsTrue work.tells → (runs_over store schema program).passes work run →
       run.store ≡ Some over → StandsAs run.database (store_before over work)
-  reads work run over tells (stored, reads, (done, named, passes)) is =
+  reads work run over tells (stored, texts, (done, name, passes)) is =
       let found = found_over store stored work run passes in
       let named_so : Some store ≡ Some over = sym (ap (λ (r : Run). r.store) found.is) ∙ is in
       let this : store ≡ over = cc (named_so) in
