@@ -1,5 +1,5 @@
 -- Why the command that makes a store keeps its promise: from what making one of the mounted store says.
-use Rattle.std.proofs.Common.{◌≡◌, ◌∙◌, ◌⊎◌, ◌≤◌, ◌<◌, ℕ, Bool, List, [], ◌∷◌, Some, Result, Ok, Err, OnOk, IsTrue, ap, arith, inl, inr, length, refl, subst, sym}
+use Rattle.std.proofs.Common.{◌≡◌, ◌∙◌, ◌⊎◌, ◌<◌, ℕ, Bool, List, [], ◌∷◌, Some, Result, Ok, Err, OnOk, IsTrue, ap, arith, inl, inr, length, refl, subst, sym}
 use Rattle.dbpl_base.specs.declared.status.Status.{Status}
 use Rattle.dbpl_base.specs.declared.status.Status.TheVariants as status
 use Rattle.dbpl_log.specs.Beginning.{IsForeign, IsFree, begun, longest_unknown}
@@ -18,7 +18,7 @@ use Rattle.dbpl_promise.proofs.Together.{moments_all, moments_both}
 use Rattle.dbpl_promise.specs.Leaving.{IsUntouched}
 use Rattle.dbpl_promise.specs.Opening.{store_before}
 use Rattle.dbpl_promise.specs.Promises.{Answered, LeavesAlone}
-use Rattle.dbpl_promise.specs.Stages.{IsDetermined, MayAnswer, gives, ◌>>=◌}
+use Rattle.dbpl_promise.specs.Stages.{IsDetermined, MayAnswer, gives}
 use Rattle.dbpl_promise.specs.Work.{Work}
 use Rattle.dbpl_store.specs.Beginning.{LeavesBegun, MayBecomeEmpty, StandsEmpty}
 use Rattle.dbpl_store.specs.Stands.{LeavesOld, stands}

@@ -1,5 +1,5 @@
 -- Why a run over the store of a name keeps its promise: from what a run over the mounted store says.
-use Rattle.std.proofs.Common.{◌≡◌, ◌≢◌, ◌∙◌, ◌⊎◌, ◌≤◌, ◌++◌, ℕ, Bool, List, [], ◌∷◌, None, Option, Some, Result, Ok, Err, OnOk, IfErr, IsOk, IsTrue, ap, arith, bytes_eq, false, inl, inr, refl, subst, sym, take, true}
+use Rattle.std.proofs.Common.{◌≡◌, ◌≢◌, ◌∙◌, ◌⊎◌, ◌++◌, ℕ, Bool, List, [], ◌∷◌, None, Option, Some, Result, Ok, Err, OnOk, IfErr, IsOk, IsTrue, ap, bytes_eq, false, inl, inr, refl, subst, sym, take, true}
 use Rattle.std.proofs.lemmas.Slice.Eq.{bytes_eq-Decides}
 use Rattle.dbpl_base.specs.declared.status.Status.{Status}
 use Rattle.dbpl_base.specs.declared.status.Status.TheVariants as status

@@ -13,7 +13,7 @@ use Rattle.dbpl_promise.proofs.Still.{IsStill}
 use Rattle.dbpl_promise.proofs.Stopped.{StopsUnmounted, stopped, stops_in_front}
 use Rattle.dbpl_promise.specs.Opening.{StandsAs, all_bound, named, no_store, opened, store_before}
 use Rattle.dbpl_promise.specs.Promises.{Answered}
-use Rattle.dbpl_promise.specs.Running.{ended, running}
+use Rattle.dbpl_promise.specs.Running.{running}
 use Rattle.dbpl_promise.specs.Runs.{Run}
 use Rattle.dbpl_promise.specs.Stages.{IsDetermined, Stage, Stops, gives, ◌>>=◌}
 use Rattle.dbpl_promise.specs.Work.{IsTold, Work}
