@@ -1,7 +1,6 @@
 -- Two commands, one behind the other: what the first one leaves is what the second one may run over.
-use Rattle.std.proofs.Common.{◌≡◌, ◌∙◌, ◌⊎◌, ℕ, List, [], ◌++◌, Bool, IsTrue, None, Option, Some, ap, false, inl, inr, map, refl, subst, sym, true}
+use Rattle.std.proofs.Common.{◌≡◌, ◌∙◌, ℕ, List, [], ◌++◌, Bool, IsTrue, None, Option, Some, ap, false, inl, inr, map, refl, subst, sym, true}
 use Rattle.std.specs.Prelude.{bytes_eq, if◌then◌else◌}
-use Rattle.dbpl_alone.specs.Command.{runs_alone}
 use Rattle.dbpl_base.specs.declared.status.Status.{Status}
 use Rattle.dbpl_base.specs.declared.status.Status.TheVariants as status
 use Rattle.dbpl_core.specs.Events.{last}
@@ -11,9 +10,8 @@ use Rattle.dbpl_promise.proofs.Rows.{BeginsAs}
 use Rattle.dbpl_promise.proofs.Stages.{one_end}
 use Rattle.dbpl_promise.proofs.Unasked.{passed_all}
 use Rattle.dbpl_promise.specs.Promises.{Answered}
-use Rattle.dbpl_promise.specs.Running.{ended, running}
+use Rattle.dbpl_promise.specs.Running.{running}
 use Rattle.dbpl_promise.specs.Runs.{IsWhole, Leaves, Run as Running, StoodFor}
-use Rattle.dbpl_promise.specs.Stages.{IsDue, ◌>>=◌}
 use Rattle.dbpl_promise.specs.Work.{IsTold, Work}
 use Rattle.dbpl_store.specs.Stands.{stands}
 use Rattle.dbpl_stored_modes.proofs.Stages.{found_over, meaning_steady, over_row, run_of}
@@ -24,10 +22,8 @@ use Rattle.dbpl_tool.proofs.Rows.{row_of}
 use Rattle.dbpl_tool.specs.Commands.{Keeps, Runs}
 use Rattle.dbpl_tool.specs.Next.{LeavesStore}
 use Rattle.dbpl_value.specs.declared.bound.Bound.{Bound}
-use Rattle.dbpl_words.specs.Asked.{Asked, Create, Run, RunAlone}
-use Rattle.dbpl_world.specs.Files.{Files}
+use Rattle.dbpl_words.specs.Asked.{Create, Run}
 use Rattle.dbpl_world.specs.History.{AllReadAnImage, History, Noted, ReadsAnImage, State, Store, more, now, store_among, store_of}
-use Rattle.dbpl_world.specs.declared.counts.Counts.{Counts}
 
 -- ---- what a read gives of any store is an image of it
 
