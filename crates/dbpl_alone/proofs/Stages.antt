@@ -111,7 +111,8 @@ alone_row file =
     -- it is over no store
     reads : (work : Work) (run : Run) (store : List ℕ) → IsTrue work.tells → (runs_alone file).passes work run →
         run.store ≡ Some store → StandsAs run.database (store_before store work)
-    reads work run store tells (text, has, (program, is, same)) over = absurd (cc (ap (λ (r : Run). r.store) same, over))
+    reads work run store tells (text, has, (program, is, same)) over =
+        absurd (cc (ap (λ (r : Run). r.store) same, over))
 
 -- ---- a run that stopped with nothing done, or behind a text that was fetched
 

@@ -60,8 +60,9 @@ left_each None P old new run found said left =
     subst (λ (f : Option (List Bound)). P f said) (sym left.3)
     (subst (λ (bytes : List ℕ). P (Some []) bytes) (sym left.4) holds)
 
-module _ (promise : Promise) (row : IsRow promise) (work : Work) (answer : Status) (did : Answered promise work answer) (told : IsTold work)
-    (run : Run) (runs : promise.runs work run) (after : History) (counts : Counts) (bytes : List ℕ)
+module _ (promise : Promise) (row : IsRow promise) (work : Work) (answer : Status)
+    (did : Answered promise work answer) (told : IsTold work) (run : Run)
+    (runs : promise.runs work run) (after : History) (counts : Counts) (bytes : List ℕ)
     (behind : after ≡ more work.after (map Noted bytes)) where
   pub headline : StoodFor run (now work.before) → IsTiedThroughout run (record work { after = after; counts_after = counts })
   headline stood =

@@ -12,18 +12,21 @@ use Rattle.dbpl_world.proofs.Moments.{moments_weaken}
 use Rattle.dbpl_world.specs.History.{State, now}
 
 -- What one promise holds, another does that allows as much.
-module _ (from to : Promise) (work : Work) (answer : Status) (answers : MayAnswer from.due work answer → MayAnswer to.due work answer)
+module _ (from to : Promise) (work : Work) (answer : Status)
+    (answers : MayAnswer from.due work answer → MayAnswer to.due work answer)
     (mounts : (name : List ℕ) → from.due.mounts work name → to.due.mounts work name)
     (may : (s : State) → from.may work answer s → to.may work answer s)
     (ends : (s : State) → from.ends work answer s → to.ends work answer s) where
   pub carried : Answered from work answer → Answered to work answer
   carried did = record {
     answers = answers did.answers;
-    moments = λ tells. moments_weaken (from.may work answer) (to.may work answer) work.before work.after may (did.moments tells);
+    moments = λ tells.
+        moments_weaken (from.may work answer) (to.may work answer) work.before work.after may (did.moments tells);
     end = λ tells. ends (now work.after) (did.end tells);
     only = λ tells.
-        moments_weaken (LeavesAlone (from.due.mounts work) (now work.before)) (LeavesAlone (to.due.mounts work) (now work.before))
-        work.before work.after (alone_more (from.due.mounts work) (to.due.mounts work) mounts (now work.before)) (did.only tells);
+        moments_weaken (LeavesAlone (from.due.mounts work) (now work.before))
+        (LeavesAlone (to.due.mounts work) (now work.before)) work.before work.after
+        (alone_more (from.due.mounts work) (to.due.mounts work) mounts (now work.before)) (did.only tells);
     prints = did.prints;
     disk = did.disk;
     source = did.source;
@@ -45,8 +48,8 @@ module _ {A : Type 0} (stage : Stage A) (next : A → Stage Status) (work : Work
 
     pub reading_behind : Answered (reading (next a)) work answer → Answered (reading (stage >>= next)) work answer
     reading_behind =
-        carried (reading (next a)) (reading (stage >>= next)) work answer answers_behind (λ name here. inr (a, passes, here))
-        (λ s may. may) (λ s end. end)
+        carried (reading (next a)) (reading (stage >>= next)) work answer answers_behind
+        (λ name here. inr (a, passes, here)) (λ s may. may) (λ s end. end)
 
 -- the stages of a run
 module _ {A : Type 0} (stage : Stage A) (next : A → Stage Run) (work : Work) (answer : Status) (a : A)

@@ -42,12 +42,12 @@ pub record IsRow (promise : Promise) : Type 0 where
   -- What may stand meanwhile, and what stands at the end, is what the headline says of a run.
   pub tied : (work : Work) (answer : Status) (s : State) (run : Run) → IsTold work → promise.runs work run →
       StoodFor run (now work.before) → promise.may work answer s → Leaves run.store (IsTied run (now work.before)) s
-  pub whole : (work : Work) (answer : Status) (s : State) (run : Run) → IsTold work → promise.runs work run → TellsOfEnd answer →
-      promise.ends work answer s → Leaves run.store (IsWhole run (now work.before) answer s.input) s
+  pub whole : (work : Work) (answer : Status) (s : State) (run : Run) → IsTold work → promise.runs work run →
+      TellsOfEnd answer → promise.ends work answer s → Leaves run.store (IsWhole run (now work.before) answer s.input) s
 
 -- a command that runs what its stages pass with
-pub running_row : (stage : Stage Run) → HasKinds stage → ((work : Work) → IsTold work → IsDetermined (stage >>= ended) work) →
-    IsRunOf stage.passes → IsRow (running stage)
+pub running_row : (stage : Stage Run) → HasKinds stage →
+    ((work : Work) → IsTold work → IsDetermined (stage >>= ended) work) → IsRunOf stage.passes → IsRow (running stage)
 running_row stage kinds determined run_is = record {
   kinds = running_kinds stage kinds;
   concludes = running_concludes stage;

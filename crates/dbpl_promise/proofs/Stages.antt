@@ -192,7 +192,8 @@ out_kind : (work : Work) (answer : Status) → out_faults work answer → kind_o
 out_kind work status.OutFault rose = refl
 out_kind work _ rose = absurd rose
 
-run_kind : (store : Option (List ℕ)) (work : Work) (answer : Status) → run_faults store work answer → kind_of answer ≡ Fault
+run_kind : (store : Option (List ℕ)) (work : Work) (answer : Status) → run_faults store work answer →
+    kind_of answer ≡ Fault
 run_kind None work answer rose = out_kind work answer rose
 run_kind (Some name) work answer (inl rose) = out_kind work answer rose
 run_kind (Some name) work answer (inr rose) = disk_kind work answer rose

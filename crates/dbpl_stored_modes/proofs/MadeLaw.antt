@@ -293,7 +293,8 @@ module _ (name : List ℕ) (work : Work) (answer : Status) (still : IsStill work
   uncreated why =
       kept_still work answer still (creates name) (fault why)
       (record {
-        stage = λ may log pages log_left pages_left. record { stage = inl (may log pages log_left pages_left); said_is = refl };
+        stage = λ may log pages log_left pages_left.
+            record { stage = inl (may log pages log_left pages_left); said_is = refl };
         kept = λ why. untouched_here (now work.before);
         said = refl;
         input = refl;

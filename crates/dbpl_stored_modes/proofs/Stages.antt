@@ -234,7 +234,9 @@ module _ (store schema program : List ℕ) (work : Work) where
 
 module _ (store schema program : List ℕ) where
   run_kinds : HasKinds (runs_over store schema program)
-  run_kinds = kinds_joined (reads_program schema program) (runs_program store) (reading_kinds schema program) (program_kinds store)
+  run_kinds =
+      kinds_joined (reads_program schema program) (runs_program store) (reading_kinds schema program)
+      (program_kinds store)
 
   rests : (work other : Work) (run : Run) → BeginsAs work other → (runs_over store schema program).passes work run →
       (runs_over store schema program).passes other run
@@ -244,8 +246,9 @@ module _ (store schema program : List ℕ) where
       (runs_over store schema program).passes (record other { files = files; tells = tells; before = before }) run)
       work other
 
-  reads : (work : Work) (run : Run) (over : List ℕ) → IsTrue work.tells → (runs_over store schema program).passes work run →
-      run.store ≡ Some over → StandsAs run.database (store_before over work)
+  reads : (work : Work) (run : Run) (over : List ℕ) → IsTrue work.tells →
+      (runs_over store schema program).passes work run → run.store ≡ Some over →
+      StandsAs run.database (store_before over work)
   reads work run over tells (stored, texts, (done, name, passes)) is =
       let found = found_over store stored work run passes in
       let named_so : Some store ≡ Some over = sym (ap (λ (r : Run). r.store) found.is) ∙ is in

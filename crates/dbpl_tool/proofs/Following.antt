@@ -83,7 +83,9 @@ after_create store work told did = ([], (did.end told).made refl)
 after_run : (store schema program : List ℕ) (work : Work) (answer : Status) → IsTold work → AllReadAnImage (now work.after) → TellsOfEnd answer →
     Answered (running (runs_over store schema program)) work answer → StandsForOne store (now work.after)
 after_run store schema program work answer told all ends did =
-    by_run (passed_all (running (runs_over store schema program)).due (over_row store schema program).kinds work answer ends did.answers)
+    by_run
+    (passed_all (running (runs_over store schema program)).due (over_row store schema program).kinds work answer ends
+    did.answers)
   where
     by_run : (running (runs_over store schema program)).due.passes work answer → StandsForOne store (now work.after)
     by_run (run, (stored, reads, (done, named, over)), told_by) =
@@ -136,9 +138,10 @@ module _ (words : List (List ℕ)) (work : Work) (answer : Status) (told : IsTol
 -- ---- the second command runs over it
 
 -- what is run rests on the beginning
-pub runs_over_files : (words : List (List ℕ)) (work other : Work) (run : Running) → BeginsAs work other → Runs words work run →
-    Runs words other run
-runs_over_files words work other run same runs = (runs.0, runs.1, (row_of runs.0).run_is.rests work other run same runs.2)
+pub runs_over_files : (words : List (List ℕ)) (work other : Work) (run : Running) → BeginsAs work other →
+    Runs words work run → Runs words other run
+runs_over_files words work other run same runs =
+    (runs.0, runs.1, (row_of runs.0).run_is.rests work other run same runs.2)
 
 -- a run over a store that stands as it reads
 pub stood_for : (words : List (List ℕ)) (work : Work) (store : List ℕ) (run : Running) → IsTrue work.tells → run.store ≡ Some store →

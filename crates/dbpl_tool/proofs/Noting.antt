@@ -113,18 +113,22 @@ module _ (work : Work) (after : History) (counts : Counts) (status : Status) whe
       }
 
   module _ (notes : Notes work after counts status) (told : IsTold work) (run : Run) (asked : Asked)
-      (did : Answered (promise_of asked) work status) (runs : (promise_of asked).runs (reported work after counts) run) where
+      (did : Answered (promise_of asked) work status)
+      (runs : (promise_of asked).runs (reported work after counts) run) where
     -- what is run rests on nothing that came later
     this : (promise_of asked).runs work run
     this =
-        (row_of asked).run_is.rests (reported work after counts) work run (record { files = refl; tells = refl; before = refl }) runs
+        (row_of asked).run_is.rests (reported work after counts) work run
+        (record { files = refl; tells = refl; before = refl }) runs
 
     pub headline_of : StoodFor run (now work.before) → IsTiedThroughout run (reported work after counts)
     headline_of =
         let is = is_noted notes in
-        headline (promise_of asked) (row_of asked) work status did told run this after counts is.noted (is.behind told.world)
+        headline (promise_of asked) (row_of asked) work status did told run this after counts is.noted
+        (is.behind told.world)
 
     pub whole_of : TellsOfEnd status → IsWholeFromThen run (reported work after counts) status
     whole_of =
         let is = is_noted notes in
-        whole (promise_of asked) (row_of asked) work status did told run this after counts is.noted (is.behind told.world)
+        whole (promise_of asked) (row_of asked) work status did told run this after counts is.noted
+        (is.behind told.world)
