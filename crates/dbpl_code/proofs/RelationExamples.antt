@@ -1,0 +1,143 @@
+-- Rows over a relation variable of the database, computed from the table. It holds the positions 1 and 2 with the quantities 5
+-- and 6.
+use Rattle.std.proofs.Common.{◌≡◌, ◌+◌, ℕ, ℤ, pos, true, false, List, [], ◌∷◌, ◌++◌, Some, None, refl, codes}
+use Rattle.dbpl_base.specs.declared.place.Place.{Place}
+use Rattle.dbpl_code.specs.References.{ref_rel_row}
+use Rattle.dbpl_code.specs.Relations.{count_row, gather_row, least_row, next_row, found_or_goes, on_relation}
+use Rattle.dbpl_code.specs.Running.{Config, Given, Machine, Operand, Over, Refers, Running, Trapped, goes_on, goes_to, number_operand, on_part, on_part_level, on_reference, on_there, on_value, on_values, unless_barred}
+use Rattle.dbpl_code.specs.Sessions.{Session, aborts, begins, commits, held_from, is_barred, kind_led_to, relation_reference, value_led_to}
+use Rattle.dbpl_code.specs.Transactions.{abort_row, begin_row, commit_row, ending_row}
+use Rattle.dbpl_core.specs.Events.{Commit, Event}
+use Rattle.dbpl_core.specs.declared.reference.Reference.{Reference}
+use Rattle.dbpl_meaning.specs.Words.{trap}
+use Rattle.dbpl_relation.specs.Examples.{sub, sub_of, subs}
+use Rattle.dbpl_value.specs.Keys.{key_of, parts_of}
+use Rattle.dbpl_value.specs.declared.bound.Bound.{Bound}
+use Rattle.dbpl_value.specs.declared.db_type.DbType.{DbType}
+use Rattle.dbpl_value.specs.declared.db_type.DbType.TheVariants as types
+use Rattle.dbpl_value.specs.declared.value.Value.{Value}
+use Rattle.dbpl_value.specs.declared.value.Value.TheVariants as value
+
+-- ---- keys
+
+-- the key of a position is its number
+key-of-sub : (p q : ℕ) → key_of subs (sub_of p q) ≡ (pos p ∷ []) ∷ []
+key-of-sub p q =
+    rw (types.outs-Rel (codes "pos" ∷ []) sub, types.outs-Rec,
+    value.outs-Rec (value.Num (pos p) ∷ value.Num (pos q) ∷ []), value.outs-Num (pos p)) refl
+
+-- ---- the session
+
+abbrev one_five : Value
+one_five = sub_of 1 5
+
+abbrev two_six : Value
+two_six = sub_of 2 6
+
+abbrev held : Value
+held = value.Rel (one_five ∷ two_six ∷ [])
+
+abbrev stock : List Bound
+stock = record { name = codes "D.r"; kind = subs; rel = held } ∷ []
+
+abbrev session_over : List Bound → List Event → Session
+session_over database events = record {
+  store = record { globals = []; frames = [] ∷ []; database = database; input = []; events = events };
+  relations = codes "D.r" ∷ [];
+  saved = Some stock;
+}
+
+abbrev resting : List Bound → List Event → Session
+resting database events = record (session_over database events) { saved = None }
+
+abbrev variable : Reference
+variable = relation_reference 0 (session_over stock []).store
+
+module _ (place : Place) where
+  abbrev config_over : Session → List Operand → Config
+  config_over session stack = record { routine = 0; at = 2; stack = stack; callers = []; session = session }
+
+  abbrev here : List Operand → Config
+  here stack = config_over (session_over stock []) stack
+
+  -- ---- no transaction
+
+  pub relation-barred : ref_rel_row 0 place (config_over (resting stock []) []) ≡ Over (Trapped (trap 12 place)) (resting stock [])
+  unfolding ref_rel_row on_there
+  relation-barred = refl
+
+  pub relation-referred : ref_rel_row 0 place (here []) ≡ goes_on (here []) (Refers variable ∷ [])
+  unfolding ref_rel_row on_there
+  relation-referred = refl
+
+  -- ---- one record after another
+
+  abbrev after_first : Config
+  after_first = here (Given one_five ∷ Refers variable ∷ [])
+
+  -- behind position 1 comes position 2
+  pub next-is-two : next_row 0 9 place after_first ≡ goes_on after_first (Given two_six ∷ [])
+  unfolding next_row is_barred value_led_to kind_led_to held_from on_value on_reference on_relation unless_barred on_part on_part_level on_there found_or_goes
+  next-is-two = rw (value.outs-Rel (one_five ∷ two_six ∷ []), key-of-sub 1 5, key-of-sub 2 6) refl
+
+  -- with the same first component there is none
+  pub next-of-one : next_row 1 9 place after_first ≡ goes_to after_first 9 []
+  unfolding next_row is_barred value_led_to kind_led_to held_from on_value on_reference on_relation unless_barred on_part on_part_level on_there found_or_goes
+  next-of-one = rw (value.outs-Rel (one_five ∷ two_six ∷ []), key-of-sub 1 5, key-of-sub 2 6) refl
+
+  abbrev after_last : Config
+  after_last = here (Given two_six ∷ Refers variable ∷ [])
+
+  pub next-of-last : next_row 0 9 place after_last ≡ goes_to after_last 9 []
+  unfolding next_row is_barred value_led_to kind_led_to held_from on_value on_reference on_relation unless_barred on_part on_part_level on_there found_or_goes
+  next-of-last = rw (value.outs-Rel (one_five ∷ two_six ∷ []), key-of-sub 1 5, key-of-sub 2 6) refl
+
+  -- the least of all is position 1
+  abbrev from_start : Config
+  from_start = here (Refers variable ∷ [])
+
+  pub least-is-one : least_row 0 9 place from_start ≡ goes_on from_start (Given one_five ∷ [])
+  unfolding least_row is_barred value_led_to kind_led_to held_from on_values on_value on_reference on_relation unless_barred on_part on_part_level on_there found_or_goes
+  least-is-one = rw (value.outs-Rel (one_five ∷ two_six ∷ []), key-of-sub 1 5) refl
+
+  -- and of those with the component 2 position 2
+  abbrev from_two : Config
+  from_two = here (number_operand (pos 2) ∷ Refers variable ∷ [])
+
+  pub least-is-two : least_row 1 9 place from_two ≡ goes_on from_two (Given two_six ∷ [])
+  unfolding least_row is_barred value_led_to kind_led_to held_from on_values on_value on_reference on_relation unless_barred on_part on_part_level on_there found_or_goes
+  least-is-two =
+      rw (value.outs-Rel (one_five ∷ two_six ∷ []), value.outs-Num (pos 2), key-of-sub 1 5, key-of-sub 2 6) refl
+
+  pub two-records : count_row place from_start ≡ goes_on from_start (number_operand (pos 2) ∷ [])
+  unfolding count_row is_barred value_led_to kind_led_to held_from on_reference on_relation unless_barred on_part on_part_level on_there
+  two-records = rw (value.outs-Rel (one_five ∷ two_six ∷ [])) refl
+
+  -- outside a transaction each is trap 12
+  pub count-barred :
+      count_row place (config_over (resting stock []) (Refers variable ∷ [])) ≡ Over (Trapped (trap 12 place)) (resting stock [])
+  unfolding count_row is_barred on_reference on_relation unless_barred on_part on_part_level on_there
+  count-barred = refl
+
+  -- ---- transactions
+
+  pub begin-saves : begin_row place (config_over (resting stock []) []) ≡ Running (record (here []) { at = 3 })
+  unfolding begin_row begins
+  begin-saves = refl
+
+  -- the database is an event
+  pub commit-is-event :
+      commit_row place (config_over (session_over [] []) [])
+      ≡ Running (record (config_over (resting [] (Commit [] ∷ [])) []) { at = 3 })
+  unfolding commit_row commits ending_row
+  commit-is-event = refl
+
+  -- the database from before stands there again, and there is no event
+  pub abort-gives-back :
+      abort_row place (config_over (session_over [] []) []) ≡ Running (record (config_over (resting stock []) []) { at = 3 })
+  unfolding abort_row aborts ending_row
+  abort-gives-back = refl
+
+  pub commit-barred : commit_row place (config_over (resting stock []) []) ≡ Over (Trapped (trap 12 place)) (resting stock [])
+  unfolding commit_row ending_row
+  commit-barred = refl

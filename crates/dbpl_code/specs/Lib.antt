@@ -1,0 +1,16 @@
+pub mod Bytes
+pub mod Calls
+pub mod Fetches
+pub mod Jumps
+pub mod Kinds
+pub mod Memory
+pub mod Numbers
+pub mod References
+pub mod Relations
+pub mod Running
+pub mod Sessions
+pub mod Steps
+pub mod Table
+pub mod Transactions
+pub mod Typing
+pub mod Values
