@@ -146,7 +146,7 @@ pub begin-traps-at-call :
     steps nested 4 (start nested [] []) ≡ Over (Trapped (trap 13 (place_of_line 2))) (running ((letter ∷ []) ∷ []))
 unfolding steps start step act const_row call_row opens limit begin_row begins on_there on_arguments on_argument on_argument_by on_value
 begin-traps-at-call =
-    then nested 3 _
+    then nested 3 (start nested [] [])
     (Running (record {
       routine = 1;
       at = 0;
@@ -154,9 +154,9 @@ begin-traps-at-call =
       callers = record { routine = 0; at = 3; place = place_of_line 2 } ∷ [];
       session = running ((letter ∷ []) ∷ []);
     })) _
-    (then nested 2 _ (nested_start 2 (number_operand (pos 72) ∷ [])) _
-    (then nested 1 _ (nested_start 1 []) _
-    (then nested 0 _ (in_start 0 [] []) _ refl refl)
+    (then nested 2 (start nested [] []) (nested_start 2 (number_operand (pos 72) ∷ [])) _
+    (then nested 1 (start nested [] []) (nested_start 1 []) _
+    (then nested 0 (start nested [] []) (in_start 0 [] []) _ refl refl)
     refl)
     (rw (types.outs-Char, value.outs-Num (pos 72)) refl))
     refl

@@ -83,10 +83,12 @@ then image n from between to before one = ap (step image) before ∙ one
 -- ---- sums and prints
 
 -- Const 3; Const 4; Add; Const 48; Add; Say; Halt
+abbrev seven_rows : List Instr
+seven_rows =
+    instr.Const (pos 3) ∷ instr.Const (pos 4) ∷ instr.Add ∷ instr.Const (pos 48) ∷ instr.Add ∷ instr.Say ∷ instr.Halt ∷ []
+
 abbrev seven : Image
-seven =
-    program_of
-    (instr.Const (pos 3) ∷ instr.Const (pos 4) ∷ instr.Add ∷ instr.Const (pos 48) ∷ instr.Add ∷ instr.Say ∷ instr.Halt ∷ [])
+seven = program_of seven_rows
 
 -- It prints `7` and ends, in seven steps.
 pub says-seven : steps seven 7 (start seven [] []) ≡ Over Ended (session_with (Out 55 ∷ []))
@@ -98,7 +100,7 @@ says-seven =
     (then seven 3 _ (at_line 3 (number_operand (pos 7) ∷ [])) _
     (then seven 2 _ (at_line 2 (number_operand (pos 4) ∷ number_operand (pos 3) ∷ [])) _
     (then seven 1 _ (at_line 1 (number_operand (pos 3) ∷ [])) _
-    (then seven 0 _ (at_line 0 []) _ (started _) refl)
+    (then seven 0 _ (at_line 0 []) _ (started seven_rows) refl)
     refl)
     (rw (value.outs-Num (pos 4), value.outs-Num (pos 3)) refl))
     refl)
@@ -107,8 +109,11 @@ says-seven =
     refl
 
 -- Const n; Const m; and an operator
+abbrev two_rows : ℤ → ℤ → Instr → List Instr
+two_rows n m row = instr.Const n ∷ instr.Const m ∷ row ∷ []
+
 abbrev two : ℤ → ℤ → Instr → Image
-two n m row = program_of (instr.Const n ∷ instr.Const m ∷ row ∷ [])
+two n m row = program_of (two_rows n m row)
 
 both_there :
     (n m : ℤ) (row : Instr) →
@@ -116,7 +121,7 @@ both_there :
 unfolding step act const_row on_there
 both_there n m row =
     then (two n m row) 1 _ (at_line 1 (number_operand n ∷ [])) _
-    (then (two n m row) 0 _ (at_line 0 []) _ (started _) refl)
+    (then (two n m row) 0 _ (at_line 0 []) _ (started (two_rows n m row)) refl)
     refl
 
 -- -7 MOD 2 is 1
@@ -125,7 +130,7 @@ pub rest-of-seven :
     ≡ at_line 3 (number_operand (pos 1) ∷ [])
 unfolding step act mod_row on_there quotient_row on_number on_value on_number_level
 rest-of-seven =
-    then _ 2 _ _ _ (both_there (negsuc 6) (pos 2) instr.Mod)
+    then (two (negsuc 6) (pos 2) instr.Mod) 2 _ _ _ (both_there (negsuc 6) (pos 2) instr.Mod)
     (rw (value.outs-Num (pos 2), value.outs-Num (negsuc 6)) refl)
 
 -- -7 DIV 2 is -4
@@ -134,7 +139,7 @@ pub quotient-of-seven :
     ≡ at_line 3 (number_operand (negsuc 3) ∷ [])
 unfolding step act div_row on_there quotient_row on_number on_value on_number_level
 quotient-of-seven =
-    then _ 2 _ _ _ (both_there (negsuc 6) (pos 2) instr.Div)
+    then (two (negsuc 6) (pos 2) instr.Div) 2 _ _ _ (both_there (negsuc 6) (pos 2) instr.Div)
     (rw (value.outs-Num (pos 2), value.outs-Num (negsuc 6)) refl)
 
 -- a divisor of 0 is trap 2, at its line
@@ -143,7 +148,7 @@ pub quotient-by-zero :
     ≡ Over (Trapped (trap 2 (place_of_line 2))) (session_with [])
 unfolding step act div_row on_there quotient_row on_number on_value on_number_level
 quotient-by-zero =
-    then _ 2 _ _ _ (both_there (pos 7) (pos 0) instr.Div)
+    then (two (pos 7) (pos 0) instr.Div) 2 _ _ _ (both_there (pos 7) (pos 0) instr.Div)
     (rw (value.outs-Num (pos 0), value.outs-Num (pos 7)) refl)
 
 -- a sum outside 64 bits is trap 1
@@ -152,7 +157,7 @@ pub sum-too-great :
     ≡ Over (Trapped (trap 1 (place_of_line 2))) (session_with [])
 unfolding step act add_row on_there exact_row on_number on_value on_number_level
 sum-too-great =
-    then _ 2 _ _ _ (both_there (pos 9223372036854775807) (pos 1) instr.Add)
+    then (two (pos 9223372036854775807) (pos 1) instr.Add) 2 _ _ _ (both_there (pos 9223372036854775807) (pos 1) instr.Add)
     (rw (value.outs-Num (pos 1), value.outs-Num (pos 9223372036854775807)) refl)
 
 -- 7 - 9 is -2, and not 2: the upper number is the second operand
@@ -161,20 +166,23 @@ pub difference-of-seven :
     ≡ at_line 3 (number_operand (negsuc 1) ∷ [])
 unfolding step act sub_row on_there exact_row on_number on_value on_number_level
 difference-of-seven =
-    then _ 2 _ _ _ (both_there (pos 7) (pos 9) instr.Sub)
+    then (two (pos 7) (pos 9) instr.Sub) 2 _ _ _ (both_there (pos 7) (pos 9) instr.Sub)
     (rw (value.outs-Num (pos 9), value.outs-Num (pos 7)) refl)
 
 -- ---- traps
 
 -- Const 5; Within 0 4 9 traps 9
+abbrev outside_rows : List Instr
+outside_rows = instr.Const (pos 5) ∷ instr.Within (pos 0) (pos 4) 9 ∷ []
+
 abbrev outside : Image
-outside = program_of (instr.Const (pos 5) ∷ instr.Within (pos 0) (pos 4) 9 ∷ [])
+outside = program_of outside_rows
 
 pub outside-traps : steps outside 2 (start outside [] []) ≡ Over (Trapped (trap 9 (place_of_line 1))) (session_with [])
 unfolding step act const_row within_row on_there on_number on_value on_number_level
 outside-traps =
     then outside 1 _ (at_line 1 (number_operand (pos 5) ∷ [])) _
-    (then outside 0 _ (at_line 0 []) _ (started _) refl)
+    (then outside 0 _ (at_line 0 []) _ (started outside_rows) refl)
     (rw (value.outs-Num (pos 5)) refl)
 
 -- Begin; Begin traps 13 at its own place, since no call is open
@@ -186,7 +194,7 @@ pub begin-in-transaction :
 unfolding step act begin_row begins on_there
 begin-in-transaction =
     then twice 1 _ (Running (record (config_at 1 [] []) { session = record (session_with []) { saved = Some [] } })) _
-    (then twice 0 _ (at_line 0 []) _ (started _) refl)
+    (then twice 0 _ (at_line 0 []) _ (started (instr.Begin ∷ instr.Begin ∷ [])) refl)
     refl
 
 -- ---- bytes
@@ -199,10 +207,10 @@ pub no_byte-traps : steps no_byte 2 (start no_byte [] []) ≡ Over (Trapped (tra
 unfolding step act const_row say_row on_there on_number on_value on_number_level
 no_byte-traps =
     then no_byte 1 _ (at_line 1 (number_operand (pos 256) ∷ [])) _
-    (then no_byte 0 _ (at_line 0 []) _ (started _) refl)
+    (then no_byte 0 _ (at_line 0 []) _ (started (instr.Const (pos 256) ∷ instr.Say ∷ [])) refl)
     (rw (value.outs-Num (pos 256)) refl)
 
 -- Take at the end of the input gives -1
 pub take-at-end : steps (program_of (instr.Take ∷ [])) 1 (start (program_of (instr.Take ∷ [])) [] []) ≡ at_line 1 (number_operand (negsuc 0) ∷ [])
 unfolding step act take_row takes on_there
-take-at-end = then _ 0 _ (at_line 0 []) _ (started _) refl
+take-at-end = then _ 0 _ (at_line 0 []) _ (started (instr.Take ∷ [])) refl

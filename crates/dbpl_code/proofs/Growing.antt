@@ -48,9 +48,10 @@ as-before before machine e = record { rest = []; is = e ∙ sym (append-nil befo
 
 module _ (before : List Event) where
   if-grows :
-      (test : Bool) (yes no : Machine) → Grows before yes → Grows before no → Grows before (if test then yes else no)
-  if-grows true yes no one other = one
-  if-grows false yes no one other = other
+      (test : Bool) (first second : Machine) → Grows before first → Grows before second →
+      Grows before (if test then first else second)
+  if-grows true first second one other = one
+  if-grows false first second one other = other
 
 module _ (c : Config) where
   abbrev Adds : Machine → Type 0
@@ -59,8 +60,8 @@ module _ (c : Config) where
   same : (machine : Machine) → events_of machine ≡ c.session.store.events → Adds machine
   same machine e = as-before c.session.store.events machine e
 
-  choice : (test : Bool) (yes no : Machine) → Adds yes → Adds no → Adds (if test then yes else no)
-  choice test yes no one other = if-grows c.session.store.events test yes no one other
+  choice : (test : Bool) (first second : Machine) → Adds first → Adds second → Adds (if test then first else second)
+  choice test first second one other = if-grows c.session.store.events test first second one other
 
   there : {A : Type 0} (found : Option A) (go : A → Machine) → ((a : A) → Adds (go a)) → Adds (on_there c found go)
   unfolding on_there

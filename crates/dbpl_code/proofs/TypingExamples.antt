@@ -157,7 +157,7 @@ not-entered :
     EntersOn 0 1 leads.on ⊎ EntersBy 1 leads.jump → ⊥
 not-entered leads known (inl on) = subst (λ (found : Leads). EntersOn 0 1 found.on) known on
 not-entered leads known (inr by) =
-    let two : 2 ≡ 1 = subst (λ (found : Leads). EntersBy 1 found.jump) known by in absurd (omega arith)
+    let two : ◌≡◌ {A = ℕ} 2 1 = subst (λ (found : Leads). EntersBy 1 found.jump) known by in absurd (omega (arith, two))
 
 leaping-refused : IsTypedRoutine (program_of leaping) (start_of leaping) → ⊥
 unfolding fits_on

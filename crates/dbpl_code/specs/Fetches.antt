@@ -1,6 +1,7 @@
 -- How many records of relations a row fetches. It counts what a row looks up by a key and what it goes through; nothing uses it
 -- yet. A row that traps counts what it followed.
-use Rattle.std.specs.Prelude.{ℕ, ◌+◌, sum_by, Bool, false, not, ◌&&◌, if◌then◌else◌, List, [], ◌∷◌, length, slice_get, Option, Some, None, option_map, option_map_or, Result, Ok, Err}
+use Rattle.std.specs.Prelude.{ℕ, ◌+◌, sum_by, Bool, false, not, ◌&&◌, if◌then◌else◌, List, [], ◌∷◌, length, slice_get, Option, Some, None, option_map, Result, Ok, Err}
+use Rattle.std.specs.Option.{option_map_or}
 use Rattle.dbpl_code.specs.Running.{Config, Given, Operand, Refers}
 use Rattle.dbpl_code.specs.Sessions.{Session, held_from, is_barred, kind_led_to, value_led_to}
 use Rattle.dbpl_code.specs.declared.instr.Instr.{Instr}
@@ -22,10 +23,13 @@ pub record Pointed : Type 0 where
   pub above : List Value
   pub reference : Reference
 
+abbrev pub below_value : Value → Pointed → Pointed
+below_value v found = record found { above = v ∷ found.above }
+
 abbrev pub pointed : List Operand → Option Pointed
 pointed [] = None
 pointed (Refers reference ∷ rest) = Some (record { above = []; reference = reference })
-pointed (Given v ∷ rest) = option_map (λ found. record found { above = v ∷ found.above }) (pointed rest)
+pointed (Given v ∷ rest) = option_map (below_value v) (pointed rest)
 
 -- ---- paths
 

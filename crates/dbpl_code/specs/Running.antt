@@ -1,6 +1,6 @@
 -- What the machine is at a moment, and the words of which the rows of the table are made. A row takes its operands by these
 -- words, and is stuck where one isn't there.
-use Rattle.std.specs.Prelude.{ℕ, zero, suc, ◌+◌, ℤ, Bool, not, if◌then◌else◌, List, [], ◌∷◌, ◌++◌, slice_get, Option, Some, None, Result, Ok, Err}
+use Rattle.std.specs.Prelude.{ℕ, zero, suc, ◌+◌, ℤ, Bool, false, not, if◌then◌else◌, List, [], ◌∷◌, ◌++◌, slice_get, Option, Some, None, Result, Ok, Err}
 use Rattle.dbpl_base.specs.declared.place.Place.{Place}
 use Rattle.dbpl_code.specs.Sessions.{Session, is_barred, is_small_at, put_led_to, value_led_to}
 use Rattle.dbpl_code.specs.declared.image.Image.{Image}

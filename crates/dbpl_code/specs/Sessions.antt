@@ -5,7 +5,8 @@
 -- A relation variable of the database is known by its number among those that the program names, in the order of units and
 -- declarations. A reference to one begins where the module variables end: number h is that of the root `Global` with the
 -- number of module variables and h. No effect of `dbpl_core` has an answer there.
-use Rattle.std.specs.Prelude.{ℕ, ◌+◌, ◌-◌, Bool, false, true, not, ◌&&◌, nat_le, if◌then◌else◌, List, [], ◌∷◌, ◌++◌, length, position, slice_get, Option, Some, None, is_some, option_and_then, option_map, option_map_or, unwrap_or, Result, Ok, Err}
+use Rattle.std.specs.Prelude.{ℕ, ◌+◌, ◌-◌, Bool, false, true, not, ◌&&◌, nat_le, if◌then◌else◌, List, [], ◌∷◌, ◌++◌, length, position, slice_get, Option, Some, None, is_some, option_and_then, option_map, unwrap_or, Result, Ok, Err}
+use Rattle.std.specs.Option.{option_map_or}
 use Rattle.dbpl_core.specs.Events.{Commit}
 use Rattle.dbpl_core.specs.Stores.{Held, Store, held_at, puts}
 use Rattle.dbpl_core.specs.declared.reference.Reference.{Reference}

@@ -1,5 +1,6 @@
 -- What each instruction does, and what so many of them do one after another.
-use Rattle.std.specs.Prelude.{ℕ, zero, suc, List, [], ◌∷◌, map, slice_get, Option, option_and_then, option_map_or}
+use Rattle.std.specs.Prelude.{ℕ, zero, suc, List, [], ◌∷◌, map, slice_get, Option, None, option_and_then}
+use Rattle.std.specs.Option.{option_map_or}
 use Rattle.dbpl_base.specs.declared.place.Place.{Place}
 use Rattle.dbpl_code.specs.Bytes.{say_row, take_row}
 use Rattle.dbpl_code.specs.Calls.{call_row, return_row, slot_kinds, started_cells}

@@ -1,5 +1,6 @@
 -- Which images are typed: each address has one stack of kinds, and each instruction finds there what it takes.
-use Rattle.std.specs.Prelude.{◌≡◌, ◌≢◌, ◌<◌, ◌⊎◌, ℕ, zero, suc, ◌+◌, Bool, false, true, not, ◌&&◌, nat_le, if◌then◌else◌, List, [], ◌∷◌, ◌++◌, length, map, reverse, slice_get, take, Option, Some, None, is_some, option_and_then, option_map, option_map_or}
+use Rattle.std.specs.Prelude.{◌≡◌, ◌≢◌, ◌<◌, ◌⊎◌, ℕ, zero, suc, ◌+◌, Bool, false, true, not, ◌&&◌, nat_le, if◌then◌else◌, List, [], ◌∷◌, ◌++◌, length, map, reverse, slice_get, take, Option, Some, None, is_some, option_and_then, option_map}
+use Rattle.std.specs.Option.{option_map_or}
 use Rattle.std.specs.List.{list_all, list_any}
 use Rattle.dbpl_code.specs.Kinds.{Composed, ElementOf, Jumping, Kind, Leads, RefTo, Whole, are_kinds, is_one_kind, kind_of_value, leads_nowhere, leads_on, leads_on_or_to, leads_to, where_so, with_composed, with_key, with_kind, with_kinds, with_reference, with_there, with_whole}
 use Rattle.dbpl_code.specs.References.{key_types}

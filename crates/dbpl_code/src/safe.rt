@@ -14,12 +14,12 @@ pub struct Safe {
 impl Model for Safe {
     ghost use Rattle.std.specs.Coded.{codes};
     ghost use Rattle.dbpl_code.specs.Typing.{IsTyped};
-    ghost use Rattle.dbpl_code.specs.contracts.image.Image as image;
+    ghost use Rattle.dbpl_code.specs.contracts.image.Image as images;
     ghost use Rattle.dbpl_code.specs.declared.image.Image.{Image as AnyImage};
 
     ghost Value = { AnyImage };
 
-    ghost coded = { Prim.hlevel (codes, image.the_row.coded) };
+    ghost coded = { Prim.hlevel (codes, images.the_row.coded) };
 
     ghost view = { λ safe. safe.image };
 
