@@ -1,20 +1,20 @@
 -- Events are only added. It holds of each word of the rows, and then of each row by a line.
-use Rattle.std.proofs.Common.{◌≡◌, ◌+◌, ℕ, zero, suc, ℤ, Bool, true, false, if◌then◌else◌, List, [], ◌∷◌, ◌++◌, Option, Some, None, option_and_then, option_map, Result, Ok, Err, nat_abs, refl, sym, ap, ◌∙◌, append_assoc}
+use Rattle.std.proofs.Common.{◌≡◌, ◌+◌, ℕ, zero, suc, ℤ, pos, Bool, true, false, if◌then◌else◌, List, [], ◌∷◌, ◌++◌, Option, Some, None, option_and_then, option_map, Result, Ok, Err, nat_abs, refl, sym, ap, ◌∙◌, append_assoc, int_le, nat_le, nat_eq, not, length, ◌-ℤ◌}
 use Rattle.std.proofs.lemmas.List.{append-nil}
 use Rattle.dbpl_base.specs.declared.place.Place.{Place}
 use Rattle.dbpl_code.proofs.Steps.{steps-add}
-use Rattle.dbpl_code.specs.Bytes.{say_row, take_row}
-use Rattle.dbpl_code.specs.Calls.{call_row, on_argument, on_argument_by, on_arguments, return_row, returned}
+use Rattle.dbpl_code.specs.Bytes.{say_row, take_row, bytes}
+use Rattle.dbpl_code.specs.Calls.{call_row, on_argument, on_argument_by, on_arguments, return_row, returned, entered}
 use Rattle.dbpl_code.specs.Jumps.{halt_row, jump_row, jump_zero_row, trap_row}
 use Rattle.dbpl_code.specs.Memory.{load_row, store_row}
 use Rattle.dbpl_code.specs.Numbers.{add_row, cmp_row, const_row, div_row, exact_row, mod_row, mul_row, quotient_row, sub_row, within_row}
-use Rattle.dbpl_code.specs.References.{ref_field_row, ref_global_row, ref_index_row, ref_key_row, ref_local_row, ref_rel_row}
+use Rattle.dbpl_code.specs.References.{ref_field_row, ref_global_row, ref_index_row, ref_key_row, ref_local_row, ref_rel_row, has_outside, with_step}
 use Rattle.dbpl_code.specs.Relations.{change_row, count_row, found_or_goes, gather_row, least_row, next_row, on_changed, on_gathered, on_relation, through_row}
-use Rattle.dbpl_code.specs.Running.{Caller, Config, Given, Machine, Operand, Over, Refers, Running, Stuck, on_key, on_number, on_number_level, on_part, on_part_level, on_reference, on_there, on_value, on_values, puts_and_goes, small_or_traps, unless_barred}
-use Rattle.dbpl_code.specs.Sessions.{Session, aborts, begins, bound_at, commits, put_by, put_in_bound, put_in_store, put_led_to, put_there, relation_place, with_bound_value}
+use Rattle.dbpl_code.specs.Running.{Caller, Config, Given, Machine, Operand, Over, Refers, Running, Stuck, on_key, on_number, on_number_level, on_part, on_part_level, on_reference, on_there, on_value, on_values, puts_and_goes, small_or_traps, unless_barred, goes_on, goes_to, goes_with, is_outside, number_operand, stuck, trapped}
+use Rattle.dbpl_code.specs.Sessions.{Session, aborts, begins, bound_at, commits, put_by, put_in_bound, put_in_store, put_led_to, put_there, relation_place, with_bound_value, in_store, is_barred, is_running, is_small_at, relation_reference}
 use Rattle.dbpl_code.specs.Steps.{act, events_of, step, steps}
-use Rattle.dbpl_code.specs.Transactions.{abort_row, begin_row, commit_row, ending_row}
-use Rattle.dbpl_code.specs.Values.{empty_row, field_row, order_row, pack_row, text_row}
+use Rattle.dbpl_code.specs.Transactions.{abort_row, begin_row, commit_row, ending_row, called_from}
+use Rattle.dbpl_code.specs.Values.{empty_row, field_row, order_row, pack_row, text_row, has_part_outside}
 use Rattle.dbpl_code.specs.declared.image.Image.{Image}
 use Rattle.dbpl_code.specs.declared.instr.Instr.{Instr}
 use Rattle.dbpl_code.specs.declared.instr.Instr.TheVariants as instr
@@ -34,6 +34,11 @@ use Rattle.dbpl_value.specs.declared.path_err.PathErr.{PathErr}
 use Rattle.dbpl_value.specs.declared.path_err.PathErr.TheVariants as path_err
 use Rattle.dbpl_value.specs.declared.value.Value.{Value, Value-F, out-Value}
 use Rattle.dbpl_value.specs.declared.value.Value.TheOpen as values
+use Rattle.dbpl_meaning.specs.Meaning.{limit}
+use Rattle.dbpl_meaning.specs.Numbers.{wide}
+use Rattle.dbpl_meaning.specs.Words.{is_zero}
+use Rattle.dbpl_value.specs.Types.{is_in, keys_of}
+use Rattle.dbpl_value.specs.declared.step.Step.TheVariants as step
 
 -- the machine has these events, and perhaps others behind them
 pub record Grows (before : List Event) (machine : Machine) : Type 0 where
@@ -119,7 +124,8 @@ module _ (c : Config) where
 
   unbarred-adds : (place : Place) (reference : Reference) (go : Machine) → Adds go → Adds (unless_barred place c reference go)
   unfolding unless_barred
-  unbarred-adds place reference go adds = choice _ _ _ (same _ refl) adds
+  unbarred-adds place reference go adds =
+      choice (is_barred reference.root c.session) (trapped 12 place c) go (same _ refl) adds
 
   part_level-adds :
       {A : Type 0} (place : Place) (part : Option (Result A PathErr)) (go : A → Machine) → ((a : A) → Adds (go a)) →
@@ -205,7 +211,8 @@ module _ (c : Config) where
       Adds c (on_part_level place c put (small_or_traps place c reference stack))
   unfolding on_part_level small_or_traps
   put_level-adds place reference stack None keeps = same c _ refl
-  put_level-adds place reference stack (Some (Ok after)) keeps = choice c _ _ _ (same c _ keeps) (same c _ refl)
+  put_level-adds place reference stack (Some (Ok after)) keeps =
+      choice c (is_small_at reference.root after) (goes_with c after stack) (trapped 14 place c) (same c _ keeps) (same c _ refl)
   put_level-adds place reference stack (Some (Err (path_err.NoElement number))) keeps = same c _ refl
   put_level-adds place reference stack (Some (Err (path_err.Index number))) keeps = same c _ refl
 
@@ -221,21 +228,31 @@ module _ (place : Place) (c : Config) where
   exact-adds : (operation : ℤ → ℤ → ℤ) → Adds c (exact_row operation place c)
   unfolding exact_row
   exact-adds operation =
-      number-adds c _ _ (λ m rest. number-adds c _ _ (λ n below. choice c _ _ _ (same c _ refl) (same c _ refl)))
+      number-adds c _ _ (λ m rest.
+      number-adds c _ _ (λ n below.
+      choice c (is_in wide (operation n m)) (goes_on c (number_operand (operation n m) ∷ below)) (trapped 1 place c)
+      (same c _ refl) (same c _ refl)))
 
   quotient-adds : (part : ℤ → ℤ → ℤ) → Adds c (quotient_row part place c)
   unfolding quotient_row
   quotient-adds part =
-      number-adds c _ _ (λ m rest. number-adds c _ _ (λ n below. choice c _ _ _ (same c _ refl) (same c _ refl)))
+      number-adds c _ _ (λ m rest.
+      number-adds c _ _ (λ n below.
+      choice c (int_le m (pos 0)) (trapped 2 place c) (goes_on c (number_operand (part n m) ∷ below))
+      (same c _ refl) (same c _ refl)))
 
   argument-adds :
       (by_ref : Bool) (image : Image) (number : ℕ) (stack : List Operand) (go : Cell → List Operand → Machine) →
       ((cell : Cell) (rest : List Operand) → Adds c (go cell rest)) →
       Adds c (on_argument_by by_ref image place c number stack go)
   unfolding on_argument_by
-  argument-adds true image number stack go adds = reference-adds c _ _ (λ reference rest. adds _ rest)
+  argument-adds true image number stack go adds =
+      reference-adds c _ _ (λ reference rest. adds (cell.Refers reference) rest)
   argument-adds false image number stack go adds =
-      value-adds c _ _ (λ v rest. there c _ _ (λ kind. choice c _ _ _ (same c _ refl) (adds _ rest)))
+      value-adds c _ _ (λ v rest.
+      there c _ _ (λ kind.
+      choice c (is_outside kind v) (trapped 3 place c) (go (cell.Holds kind v) rest) (same c _ refl)
+      (adds (cell.Holds kind v) rest)))
 
   arguments-add :
       (image : Image) (slots : List Slot) (stack : List Operand) (go : List Cell → List Operand → Machine) →
@@ -252,7 +269,9 @@ module _ (place : Place) (c : Config) where
   call-adds image number =
       there c _ _ (λ routine.
       arguments-add image _ _ _ (λ cells rest.
-      there c _ _ (λ locals. choice c _ _ _ (same c _ refl) (same c _ refl))))
+      there c _ _ (λ locals.
+      choice c (nat_le (suc (length c.callers)) limit) (entered number place c (cells ++ locals) rest) (trapped 7 place c)
+      (same c _ refl) (same c _ refl))))
 
   returned-adds : (callers : List Caller) → Adds c (returned c callers)
   unfolding closes returned
@@ -298,26 +317,41 @@ module _ (image : Image) (place : Place) (c : Config) where
   act-adds instr.Mul = exact-adds place c _
   act-adds instr.Div = quotient-adds place c _
   act-adds instr.Mod = quotient-adds place c _
-  act-adds (instr.Within least greatest kind) = number-adds c _ _ (λ n rest. choice c _ _ _ (same c _ refl) (same c _ refl))
+  act-adds (instr.Within least greatest kind) =
+      number-adds c _ _ (λ n rest.
+      choice c (is_in (record { least = least; greatest = greatest }) n) (goes_on c (number_operand n ∷ rest))
+      (trapped kind place c) (same c _ refl) (same c _ refl))
   act-adds (instr.Cmp relation) = number-adds c _ _ (λ m rest. number-adds c _ _ (λ n below. same c _ refl))
   act-adds (instr.Order relation) = value-adds c _ _ (λ w rest. value-adds c _ _ (λ v below. same c _ refl))
   act-adds (instr.Jump address) = same c _ refl
-  act-adds (instr.JumpZero address) = number-adds c _ _ (λ n rest. choice c _ _ _ (same c _ refl) (same c _ refl))
+  act-adds (instr.JumpZero address) =
+      number-adds c _ _ (λ n rest.
+      choice c (is_zero n) (goes_to c address rest) (goes_on c rest) (same c _ refl) (same c _ refl))
   act-adds (instr.Call number) = call-adds place c image number
   act-adds instr.Return = returned-adds place c c.callers
   act-adds instr.Halt = same c _ refl
   act-adds (instr.Trap kind) = same c _ refl
   act-adds (instr.RefLocal slot) = there c _ _ (λ reference. same c _ refl)
   act-adds (instr.RefGlobal number) = there c _ _ (λ cell. same c _ refl)
-  act-adds (instr.RefRel number) = there c _ _ (λ name. choice c _ _ _ (same c _ refl) (same c _ refl))
+  act-adds (instr.RefRel number) =
+      there c _ _ (λ name.
+      choice c (is_running c.session) (goes_on c (Refers (relation_reference number c.session.store) ∷ c.stack))
+      (trapped 12 place c) (same c _ refl) (same c _ refl))
   act-adds (instr.RefField number) = reference-adds c _ _ (λ reference rest. same c _ refl)
   act-adds instr.RefIndex =
       number-adds c _ _ (λ n rest.
       reference-adds c _ _ (λ reference below.
-      there c _ _ (λ range. choice c _ _ _ (same c _ refl) (same c _ refl))))
+      there c _ _ (λ range.
+      choice c (is_in range n) (goes_on c (Refers (with_step reference (step.Index (nat_abs (n -ℤ range.least)))) ∷ below))
+      (trapped 4 place c) (same c _ refl) (same c _ refl))))
   act-adds instr.RefKey =
       key-adds c _ _ (λ key reference rest.
-      there c _ _ (λ t. choice c _ _ _ (same c _ refl) (choice c _ _ _ (same c _ refl) (same c _ refl))))
+      there c _ _ (λ t.
+      choice c (not (nat_eq (length key) (length (keys_of t)))) (stuck c)
+      (if has_outside t key then trapped 3 place c else goes_on c (Refers (with_step reference (step.Key key)) ∷ rest))
+      (same c _ refl)
+      (choice c (has_outside t key) (trapped 3 place c) (goes_on c (Refers (with_step reference (step.Key key)) ∷ rest))
+      (same c _ refl) (same c _ refl))))
   act-adds instr.Load =
       reference-adds c _ _ (λ reference rest.
       part-adds c place reference _ (λ v. unbarred-adds c place reference _ (same c _ refl)))
@@ -325,7 +359,9 @@ module _ (image : Image) (place : Place) (c : Config) where
       value-adds c _ _ (λ v rest.
       reference-adds c _ _ (λ reference below.
       unbarred-adds c place reference _ (
-      there c _ _ (λ kind. choice c _ _ _ (same c _ refl) (puts-adds c place reference v below)))))
+      there c _ _ (λ kind.
+      choice c (is_outside kind v) (trapped 3 place c) (puts_and_goes place c reference v below) (same c _ refl)
+      (puts-adds c place reference v below)))))
   act-adds (instr.Change operator) =
       value-adds c _ _ (λ right rest.
       reference-adds c _ _ (λ reference below.
@@ -338,7 +374,9 @@ module _ (image : Image) (place : Place) (c : Config) where
   act-adds (instr.Field number) = value-adds c _ _ (λ v rest. there c _ _ (λ part. same c _ refl))
   act-adds (instr.Pack number) =
       there c _ _ (λ kind.
-      values-add c _ _ _ (λ parts rest. there c _ _ (λ v. choice c _ _ _ (same c _ refl) (same c _ refl))))
+      values-add c _ _ _ (λ parts rest. there c _ _ (λ v.
+      choice c (has_part_outside kind parts) (trapped 3 place c) (goes_on c (Given v ∷ rest)) (same c _ refl)
+      (same c _ refl))))
   act-adds (instr.Text text number) = there c _ _ (λ bytes. there c _ _ (λ kind. same c _ refl))
   act-adds (instr.Empty number) = same c _ refl
   act-adds (instr.Least count address) =
@@ -355,12 +393,19 @@ module _ (image : Image) (place : Place) (c : Config) where
       relation-adds place c reference _ (λ t records. gathered-adds place c reference below _)))
   act-adds instr.Count =
       reference-adds c _ _ (λ reference rest. relation-adds place c reference _ (λ t records. same c _ refl))
-  act-adds instr.Begin = choice c _ _ _ (same c _ refl) (same c _ refl)
+  act-adds instr.Begin =
+      choice c (is_running c.session) (trapped 13 (called_from place c.callers) c)
+      (goes_with c (begins c.session) c.stack) (same c _ refl) (same c _ refl)
   act-adds instr.Commit =
-      choice c _ _ _ (record { rest = Commit c.session.store.database ∷ []; is = refl }) (same c _ refl)
-  act-adds instr.Abort = choice c _ _ _ (same c _ refl) (same c _ refl)
+      choice c (is_running c.session) (goes_with c (commits c.session) c.stack) (trapped 12 place c)
+      (record { rest = Commit c.session.store.database ∷ []; is = refl }) (same c _ refl)
+  act-adds instr.Abort =
+      choice c (is_running c.session) (goes_with c (aborts c.session) c.stack) (trapped 12 place c) (same c _ refl)
+      (same c _ refl)
   act-adds instr.Say =
-      number-adds c _ _ (λ n rest. choice c _ _ _ (record { rest = Out (nat_abs n) ∷ []; is = refl }) (same c _ refl))
+      number-adds c _ _ (λ n rest.
+      choice c (is_in bytes n) (goes_with c (in_store (says (nat_abs n ∷ [])) c.session) rest) (trapped 3 place c)
+      (record { rest = Out (nat_abs n) ∷ []; is = refl }) (same c _ refl))
   act-adds instr.Take = same c _ (taken-same place c c.session.store.input c.session.store)
 
 -- ---- steps

@@ -11,7 +11,7 @@ use Rattle.dbpl_core.specs.Events.{Commit, Event}
 use Rattle.dbpl_core.specs.declared.reference.Reference.{Reference}
 use Rattle.dbpl_meaning.specs.Words.{trap}
 use Rattle.dbpl_relation.specs.Examples.{sub, sub_of, subs}
-use Rattle.dbpl_value.specs.Keys.{key_of, parts_of}
+use Rattle.dbpl_value.specs.Keys.{key_of, number_of, parts_of}
 use Rattle.dbpl_value.specs.declared.bound.Bound.{Bound}
 use Rattle.dbpl_value.specs.declared.db_type.DbType.{DbType}
 use Rattle.dbpl_value.specs.declared.db_type.DbType.TheVariants as types
@@ -20,11 +20,14 @@ use Rattle.dbpl_value.specs.declared.value.Value.TheVariants as value
 
 -- ---- keys
 
+number-is : (n : ℤ) → number_of (value.Num n) ≡ n
+number-is n = rw (value.outs-Num n) refl
+
 -- the key of a position is its number
 key-of-sub : (p q : ℕ) → key_of subs (sub_of p q) ≡ (pos p ∷ []) ∷ []
 key-of-sub p q =
     rw (types.outs-Rel (codes "pos" ∷ []) sub, types.outs-Rec,
-    value.outs-Rec (value.Num (pos p) ∷ value.Num (pos q) ∷ []), value.outs-Num (pos p)) refl
+    value.outs-Rec (value.Num (pos p) ∷ value.Num (pos q) ∷ []), number-is (pos p)) refl
 
 -- ---- the session
 

@@ -37,8 +37,8 @@ pub fn seal(image: Image) -> Safe
 impl Safe {
     /// The image that was sealed.
     pub fn image(&self) -> &Image
-        ensures image { result ≡ self }
-        ensures typed { IsTyped result }
+        ensures image { result.now ≡ self.now }
+        ensures typed { IsTyped result.now }
     {
         &self.image
     }
