@@ -11,7 +11,7 @@ use Rattle.dbpl_core.specs.Events.{Commit, Event}
 use Rattle.dbpl_core.specs.declared.reference.Reference.{Reference}
 use Rattle.dbpl_meaning.specs.Words.{trap}
 use Rattle.dbpl_relation.specs.Examples.{sub, sub_of, subs}
-use Rattle.dbpl_value.specs.Keys.{key_of, number_of, parts_of}
+use Rattle.dbpl_value.specs.Keys.{component_of, key_of, parts_of}
 use Rattle.dbpl_value.specs.declared.bound.Bound.{Bound}
 use Rattle.dbpl_value.specs.declared.db_type.DbType.{DbType}
 use Rattle.dbpl_value.specs.declared.db_type.DbType.TheVariants as types
@@ -20,14 +20,14 @@ use Rattle.dbpl_value.specs.declared.value.Value.TheVariants as value
 
 -- ---- keys
 
-number-is : (n : ℤ) → number_of (value.Num n) ≡ n
-number-is n = rw (value.outs-Num n) refl
+component-is : (n : ℤ) → component_of (value.Num n) ≡ n ∷ []
+component-is n = rw (value.outs-Num n, value.outs-Num n) refl
 
 -- the key of a position is its number
 key-of-sub : (p q : ℕ) → key_of subs (sub_of p q) ≡ (pos p ∷ []) ∷ []
 key-of-sub p q =
     rw (types.outs-Rel (codes "pos" ∷ []) sub, types.outs-Rec,
-    value.outs-Rec (value.Num (pos p) ∷ value.Num (pos q) ∷ []), number-is (pos p)) refl
+    value.outs-Rec (value.Num (pos p) ∷ value.Num (pos q) ∷ []), component-is (pos p)) refl
 
 -- ---- the session
 
@@ -101,7 +101,7 @@ module _ (place : Place) where
 
   pub least-is-one : least_row 0 9 place from_start ≡ goes_on from_start (Given one_five ∷ [])
   unfolding least_row is_barred value_led_to kind_led_to held_from on_values on_value on_reference on_relation unless_barred on_part on_part_level on_there found_or_goes
-  least-is-one = rw (value.outs-Rel (one_five ∷ two_six ∷ []), key-of-sub 1 5) refl
+  least-is-one = rw (value.outs-Rel (one_five ∷ two_six ∷ [])) refl
 
   -- and of those with the component 2 position 2
   abbrev from_two : Config
@@ -110,7 +110,7 @@ module _ (place : Place) where
   pub least-is-two : least_row 1 9 place from_two ≡ goes_on from_two (Given two_six ∷ [])
   unfolding least_row is_barred value_led_to kind_led_to held_from on_values on_value on_reference on_relation unless_barred on_part on_part_level on_there found_or_goes
   least-is-two =
-      rw (value.outs-Rel (one_five ∷ two_six ∷ []), value.outs-Num (pos 2), key-of-sub 1 5, key-of-sub 2 6) refl
+      rw (value.outs-Rel (one_five ∷ two_six ∷ []), component-is (pos 2), key-of-sub 1 5, key-of-sub 2 6) refl
 
   pub two-records : count_row place from_start ≡ goes_on from_start (number_operand (pos 2) ∷ [])
   unfolding count_row is_barred value_led_to kind_led_to held_from on_reference on_relation unless_barred on_part on_part_level on_there
