@@ -147,6 +147,7 @@ module _ (c : Config) where
 with_cell-events : (at : ReferenceRoot) (cell : Cell) (store : Store) → (with_cell at cell store).events ≡ store.events
 with_cell-events (root.Global number) cell store = refl
 with_cell-events (root.Slot frame slot) cell store = refl
+with_cell-events (root.Relation number) cell store = refl
 
 -- a session that is put has the events that were there
 abbrev KeepsEvents : List Event → Option (Result Session PathErr) → Type 0
@@ -335,7 +336,7 @@ module _ (image : Image) (place : Place) (c : Config) where
   act-adds (instr.RefGlobal number) = there c _ _ (λ cell. same c _ refl)
   act-adds (instr.RefRel number) =
       there c _ _ (λ name.
-      choice c (is_running c.session) (goes_on c (Refers (relation_reference number c.session.store) ∷ c.stack))
+      choice c (is_running c.session) (goes_on c (Refers (relation_reference number) ∷ c.stack))
       (trapped 12 place c) (same c _ refl) (same c _ refl))
   act-adds (instr.RefField number) = reference-adds c _ _ (λ reference rest. same c _ refl)
   act-adds instr.RefIndex =

@@ -54,7 +54,7 @@ abbrev resting : List Bound → List Event → Session
 resting database events = record (session_over database events) { saved = None }
 
 abbrev variable : Reference
-variable = relation_reference 0 (session_over stock []).store
+variable = relation_reference 0
 
 module _ (place : Place) where
   abbrev config_over : Session → List Operand → Config

@@ -33,7 +33,7 @@ ref_global_row number c =
 unfoldable pub ref_rel_row : ℕ → Place → Config → Machine
 ref_rel_row number place c =
     on_there c (slice_get c.session.relations number) (λ name.
-    if is_running c.session then goes_on c (Refers (relation_reference number c.session.store) ∷ c.stack)
+    if is_running c.session then goes_on c (Refers (relation_reference number) ∷ c.stack)
     else trapped 12 place c)
 
 -- RefField

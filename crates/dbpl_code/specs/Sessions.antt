@@ -1,11 +1,10 @@
 -- What a run over a database has beside its store, and each effect on that: relation variables of the database and
--- transactions. `dbpl_core` has the store and its effects; these stand beside them, each shut like those, for whatever runs
--- over a database.
+-- transactions. `dbpl_core` has the store and its effects; these stand beside them, each shut like those, for whatever
+-- runs over a database.
 --
--- A relation variable of the database is known by its number among those that the program names, in the order of units and
--- declarations. A reference to one begins where the module variables end: number h is that of the root `Global` with the
--- number of module variables and h. No effect of `dbpl_core` has an answer there.
-use Rattle.std.specs.Prelude.{ℕ, ◌+◌, ◌-◌, Bool, false, true, not, ◌&&◌, nat_le, if◌then◌else◌, List, [], ◌∷◌, ◌++◌, length, position, slice_get, Option, Some, None, is_some, option_and_then, option_map, unwrap_or, Result, Ok, Err}
+-- A relation variable of the database is known by its number among those that the program names, in the order of units
+-- and declarations. No effect of `dbpl_core` has an answer for a reference that begins with one; those here have.
+use Rattle.std.specs.Prelude.{ℕ, Bool, true, not, ◌&&◌, if◌then◌else◌, List, [], ◌∷◌, ◌++◌, position, slice_get, Option, Some, None, is_some, option_and_then, option_map, unwrap_or, Result, Ok, Err}
 use Rattle.std.specs.Option.{option_map_or}
 use Rattle.dbpl_core.specs.Events.{Commit}
 use Rattle.dbpl_core.specs.Stores.{Held, Store, held_at, puts}
@@ -35,14 +34,14 @@ in_store effect session = record session { store = effect session.store }
 -- ---- relation variables
 
 -- the number of the relation variable with which a reference begins, if it begins with one
-abbrev pub relation_number : ReferenceRoot → Store → Option ℕ
-relation_number (root.Global number) store =
-    if nat_le (length store.globals) number then Some (number - length store.globals) else None
-relation_number (root.Slot frame slot) store = None
+abbrev pub relation_number : ReferenceRoot → Option ℕ
+relation_number (root.Global number) = None
+relation_number (root.Slot frame slot) = None
+relation_number (root.Relation number) = Some number
 
 -- a reference to the relation variable with this number
-abbrev pub relation_reference : ℕ → Store → Reference
-relation_reference number store = record { root = root.Global (length store.globals + number); path = [] }
+abbrev pub relation_reference : ℕ → Reference
+relation_reference number = record { root = root.Relation number; path = [] }
 
 -- where the relation variable with this number stands in the database
 abbrev pub relation_place : ℕ → Session → Option ℕ
@@ -64,7 +63,7 @@ held_by (Some number) at session =
 
 -- THE value with its type with which a reference begins
 unfoldable pub held_from : ReferenceRoot → Session → Option Held
-held_from at session = held_by (relation_number at session.store) at session
+held_from at session = held_by (relation_number at) at session
 
 -- THE type of the place to which a reference leads
 unfoldable pub kind_led_to : Reference → Session → Option DbType
@@ -103,7 +102,7 @@ put_by (Some number) reference new session =
 
 -- THE session with this value where a reference leads, or the first step of its path that leads nowhere
 unfoldable pub put_led_to : Reference → Value → Session → Option (Result Session PathErr)
-put_led_to reference new session = put_by (relation_number reference.root session.store) reference new session
+put_led_to reference new session = put_by (relation_number reference.root) reference new session
 
 abbrev pub is_small_held : Option Held → Bool
 is_small_held None = true
@@ -113,7 +112,7 @@ is_small_held (Some held) = are_small held.kind held.value
 -- it may. All others were so small before, so it is a test of the records that were put, each as a whole.
 unfoldable pub is_small_at : ReferenceRoot → Session → Bool
 is_small_at at session =
-    if is_some (relation_number at session.store) then is_small_held (held_from at session) else true
+    if is_some (relation_number at) then is_small_held (held_from at session) else true
 
 -- ---- transactions
 
@@ -123,7 +122,7 @@ is_running session = is_some session.saved
 
 -- THE test of a reference that may not be used now: it begins with a relation variable, and no transaction runs
 unfoldable pub is_barred : ReferenceRoot → Session → Bool
-is_barred at session = is_some (relation_number at session.store) && not (is_running session)
+is_barred at session = is_some (relation_number at) && not (is_running session)
 
 -- THE session in which a transaction has begun
 unfoldable pub begins : Session → Session

@@ -31,10 +31,11 @@ first_store globals database input =
 
 -- ---- variables
 
--- the cell of a variable, if there is one
+-- the cell of a variable, if there is one; a relation variable of the database has none
 abbrev pub cell_at : ReferenceRoot → Store → Option Cell
 cell_at (root.Global number) store = slice_get store.globals number
 cell_at (root.Slot frame slot) store = option_and_then (λ cells. slice_get cells slot) (slice_get store.frames frame)
+cell_at (root.Relation number) store = None
 
 -- the list with this done to what stands at a position
 abbrev pub changed_at : {A : Type 0} → (A → A) → ℕ → List A → List A
@@ -47,6 +48,7 @@ abbrev pub with_cell : ReferenceRoot → Cell → Store → Store
 with_cell (root.Global number) new store = record store { globals = changed_at (λ old. new) number store.globals }
 with_cell (root.Slot frame slot) new store =
     record store { frames = changed_at (changed_at (λ old. new) slot) frame store.frames }
+with_cell (root.Relation number) new store = store
 
 -- a value with its type
 pub record Held : Type 0 where

@@ -407,6 +407,7 @@ AreBeside store (Some other) = IsBeside store other
 with_cell-beside : (at : ReferenceRoot) (new : Cell) (store : Store) → IsBeside store (with_cell at new store)
 with_cell-beside (root.Global number) new store = record { events = refl; input = refl }
 with_cell-beside (root.Slot frame slot) new store = record { events = refl; input = refl }
+with_cell-beside (root.Relation number) new store = record { events = refl; input = refl }
 
 put-beside :
     (store : Store) (held : Held) (reference : Reference) (new : Value) (found : Result Value PathErr) →
