@@ -1,8 +1,7 @@
--- Programs of two routines, computed from the table: a call with an argument, the limit of open calls, and the place of trap
--- 13. Routine 1 has one parameter, of CHAR.
-use Rattle.std.proofs.Common.{◌≡◌, ◌+◌, ℕ, zero, suc, ℤ, pos, true, false, List, [], ◌∷◌, length, Some, None, refl, ap, sym, ◌∙◌, codes}
-use Rattle.dbpl_base.specs.declared.place.Place.{Place}
-use Rattle.dbpl_code.proofs.Examples.{lines_from, place_of_line, session_with, start_of, then}
+-- Programs of two routines, computed from the table: a call with an argument, the limit of open calls, and the place of
+-- trap 13. Routine 1 has one parameter, of CHAR.
+use Rattle.std.proofs.Common.{◌≡◌, ℕ, pos, true, false, List, [], ◌∷◌, length, Some, None, refl, codes}
+use Rattle.dbpl_code.proofs.Examples.{lines_from, place_of_line, start_of, then}
 use Rattle.dbpl_code.specs.Bytes.{say_row}
 use Rattle.dbpl_code.specs.Calls.{call_row, return_row, on_argument, on_argument_by, on_arguments, returned}
 use Rattle.dbpl_code.specs.Jumps.{halt_row}
@@ -21,7 +20,6 @@ use Rattle.dbpl_core.specs.Events.{Event, Out}
 use Rattle.dbpl_core.specs.Stores.{closes, opens, refers, says}
 use Rattle.dbpl_core.specs.declared.cell.Cell.{Cell}
 use Rattle.dbpl_core.specs.declared.cell.Cell.TheVariants as cell
-use Rattle.dbpl_core.specs.declared.reference.Reference.{Reference}
 use Rattle.dbpl_core.specs.declared.reference_root.ReferenceRoot.TheVariants as root
 use Rattle.dbpl_meaning.specs.Meaning.{limit}
 use Rattle.dbpl_meaning.specs.Words.{trap}

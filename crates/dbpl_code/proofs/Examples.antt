@@ -1,11 +1,10 @@
 -- Programs of one routine over the empty database, computed from the table.
-use Rattle.std.proofs.Common.{◌≡◌, ◌+◌, ◌<◌, ℕ, zero, suc, ℤ, pos, negsuc, true, false, List, [], ◌∷◌, length, Some, None, refl, ap, sym, ◌∙◌, arith, codes}
-use Rattle.std.specs.Prelude.{slice_get}
+use Rattle.std.proofs.Common.{◌≡◌, ◌+◌, ℕ, suc, ℤ, pos, negsuc, true, List, [], ◌∷◌, Some, None, refl, ap, ◌∙◌, codes}
 use Rattle.dbpl_base.specs.declared.place.Place.{Place}
 use Rattle.dbpl_code.specs.Bytes.{say_row, take_row}
-use Rattle.dbpl_code.specs.Jumps.{halt_row, jump_row, jump_zero_row, trap_row}
-use Rattle.dbpl_code.specs.Numbers.{add_row, cmp_row, const_row, div_row, mod_row, mul_row, sub_row, within_row, exact_row, quotient_row}
-use Rattle.dbpl_code.specs.Running.{Caller, Config, Ended, Machine, Operand, Over, Running, Trapped, number_operand, on_number, on_number_level, on_there, on_value}
+use Rattle.dbpl_code.specs.Jumps.{halt_row}
+use Rattle.dbpl_code.specs.Numbers.{add_row, const_row, div_row, mod_row, sub_row, within_row, exact_row, quotient_row}
+use Rattle.dbpl_code.specs.Running.{Config, Ended, Machine, Operand, Over, Running, Trapped, number_operand, on_number, on_number_level, on_there, on_value}
 use Rattle.dbpl_code.specs.Sessions.{Session, begins}
 use Rattle.dbpl_code.specs.Steps.{act, start, step, steps}
 use Rattle.dbpl_code.specs.Transactions.{begin_row}

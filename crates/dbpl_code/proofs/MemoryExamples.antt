@@ -1,13 +1,11 @@
 -- What is stored and loaded, computed from the table: over one module variable of CHAR, and over one that is an array.
-use Rattle.std.proofs.Common.{◌≡◌, ◌+◌, ℕ, ℤ, pos, true, false, List, [], ◌∷◌, Some, None, refl}
+use Rattle.std.proofs.Common.{◌≡◌, ℕ, pos, List, [], ◌∷◌, None, refl}
 use Rattle.dbpl_base.specs.declared.place.Place.{Place}
 use Rattle.dbpl_code.specs.Memory.{load_row, store_row}
 use Rattle.dbpl_code.specs.References.{ref_index_row}
-use Rattle.dbpl_code.specs.Running.{Config, Given, Machine, Operand, Over, Refers, Running, Trapped, goes_on, goes_with, number_operand, on_number, on_number_level, on_part, on_part_level, on_reference, on_there, on_value, puts_and_goes, small_or_traps, unless_barred}
+use Rattle.dbpl_code.specs.Running.{Config, Given, Operand, Over, Refers, Trapped, goes_on, goes_with, number_operand, on_number, on_number_level, on_part, on_part_level, on_reference, on_there, on_value, puts_and_goes, small_or_traps, unless_barred}
 use Rattle.dbpl_code.specs.Sessions.{Session, held_from, is_barred, is_small_at, kind_led_to, put_led_to, value_led_to}
-use Rattle.dbpl_core.specs.Events.{Event}
 use Rattle.dbpl_core.specs.Stores.{puts}
-use Rattle.dbpl_core.specs.declared.cell.Cell.{Cell}
 use Rattle.dbpl_core.specs.declared.cell.Cell.TheVariants as cell
 use Rattle.dbpl_core.specs.declared.reference_root.ReferenceRoot.TheVariants as root
 use Rattle.dbpl_meaning.specs.Declared.{global_reference}
@@ -66,12 +64,18 @@ module _ (place : Place) (v : Value) where
       ref_index_row place (indexed 3) ≡ goes_on (indexed 3) (Refers (record { root = root.Global 0; path = step.Index 2 ∷ [] }) ∷ [])
   unfolding ref_index_row kind_led_to held_from on_number on_value on_number_level on_reference on_there
   index-within =
-      rw (value.outs-Num (pos 3), types.outs-Arr (types.Sub types.Card (pos 1) (pos 3)) types.Char,
-      types.outs-Sub types.Card (pos 1) (pos 3)) refl
+      rw (
+        value.outs-Num (pos 3),
+        types.outs-Arr (types.Sub types.Card (pos 1) (pos 3)) types.Char,
+        types.outs-Sub types.Card (pos 1) (pos 3),
+      ) refl
 
   -- index 4 is trap 4
   pub index-outside : ref_index_row place (indexed 4) ≡ Over (Trapped (trap 4 place)) (session_of_one three v)
   unfolding ref_index_row kind_led_to held_from on_number on_value on_number_level on_reference on_there
   index-outside =
-      rw (value.outs-Num (pos 4), types.outs-Arr (types.Sub types.Card (pos 1) (pos 3)) types.Char,
-      types.outs-Sub types.Card (pos 1) (pos 3)) refl
+      rw (
+        value.outs-Num (pos 4),
+        types.outs-Arr (types.Sub types.Card (pos 1) (pos 3)) types.Char,
+        types.outs-Sub types.Card (pos 1) (pos 3),
+      ) refl

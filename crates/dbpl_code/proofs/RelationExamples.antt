@@ -1,19 +1,18 @@
--- Rows over a relation variable of the database, computed from the table. It holds the positions 1 and 2 with the quantities 5
--- and 6.
-use Rattle.std.proofs.Common.{◌≡◌, ◌+◌, ℕ, ℤ, pos, true, false, List, [], ◌∷◌, ◌++◌, Some, None, refl, codes}
+-- Rows over a relation variable of the database, computed from the table. It holds the positions 1 and 2 with the
+-- quantities 5 and 6.
+use Rattle.std.proofs.Common.{◌≡◌, ℕ, ℤ, pos, List, [], ◌∷◌, Some, None, refl, codes}
 use Rattle.dbpl_base.specs.declared.place.Place.{Place}
 use Rattle.dbpl_code.specs.References.{ref_rel_row}
-use Rattle.dbpl_code.specs.Relations.{count_row, gather_row, least_row, next_row, found_or_goes, on_relation}
-use Rattle.dbpl_code.specs.Running.{Config, Given, Machine, Operand, Over, Refers, Running, Trapped, goes_on, goes_to, number_operand, on_part, on_part_level, on_reference, on_there, on_value, on_values, unless_barred}
+use Rattle.dbpl_code.specs.Relations.{count_row, least_row, next_row, found_or_goes, on_relation}
+use Rattle.dbpl_code.specs.Running.{Config, Given, Operand, Over, Refers, Running, Trapped, goes_on, goes_to, number_operand, on_part, on_part_level, on_reference, on_there, on_value, on_values, unless_barred}
 use Rattle.dbpl_code.specs.Sessions.{Session, aborts, begins, commits, held_from, is_barred, kind_led_to, relation_reference, value_led_to}
 use Rattle.dbpl_code.specs.Transactions.{abort_row, begin_row, commit_row, ending_row}
 use Rattle.dbpl_core.specs.Events.{Commit, Event}
 use Rattle.dbpl_core.specs.declared.reference.Reference.{Reference}
 use Rattle.dbpl_meaning.specs.Words.{trap}
 use Rattle.dbpl_relation.specs.Examples.{sub, sub_of, subs}
-use Rattle.dbpl_value.specs.Keys.{component_of, key_of, parts_of}
+use Rattle.dbpl_value.specs.Keys.{component_of, key_of}
 use Rattle.dbpl_value.specs.declared.bound.Bound.{Bound}
-use Rattle.dbpl_value.specs.declared.db_type.DbType.{DbType}
 use Rattle.dbpl_value.specs.declared.db_type.DbType.TheVariants as types
 use Rattle.dbpl_value.specs.declared.value.Value.{Value}
 use Rattle.dbpl_value.specs.declared.value.Value.TheVariants as value
@@ -26,8 +25,12 @@ component-is n = rw (value.outs-Num n, value.outs-Num n) refl
 -- the key of a position is its number
 key-of-sub : (p q : ℕ) → key_of subs (sub_of p q) ≡ (pos p ∷ []) ∷ []
 key-of-sub p q =
-    rw (types.outs-Rel (codes "pos" ∷ []) sub, types.outs-Rec,
-    value.outs-Rec (value.Num (pos p) ∷ value.Num (pos q) ∷ []), component-is (pos p)) refl
+    rw (
+      types.outs-Rel (codes "pos" ∷ []) sub,
+      types.outs-Rec,
+      value.outs-Rec (value.Num (pos p) ∷ value.Num (pos q) ∷ []),
+      component-is (pos p),
+    ) refl
 
 -- ---- the session
 

@@ -1,6 +1,6 @@
 -- So many instructions and then so many are the sum of both; what is over or stuck stays, so there is one end.
 use Rattle.std.proofs.Common.{◌≡◌, ◌+◌, ℕ, zero, suc, ap, refl, sym, ◌∙◌, arith}
-use Rattle.dbpl_code.specs.Running.{Config, Ending, Machine, Over, Running, Stuck}
+use Rattle.dbpl_code.specs.Running.{Ending, Machine, Over, Stuck}
 use Rattle.dbpl_code.specs.Sessions.{Session}
 use Rattle.dbpl_code.specs.Steps.{step, steps}
 use Rattle.dbpl_code.specs.declared.image.Image.{Image}

@@ -1,9 +1,9 @@
 -- Which of four programs of one routine are typed.
-use Rattle.std.proofs.Common.{◌≡◌, ◌≢◌, ◌<◌, ◌≤◌, ◌+◌, ℕ, zero, suc, pos, true, false, List, [], ◌∷◌, length, Option, Some, None, refl, ap, sym, subst, ◌∙◌, arith, ◌⊎◌, inl, inr}
+use Rattle.std.proofs.Common.{◌≡◌, ◌≢◌, ◌<◌, ◌+◌, ℕ, zero, suc, pos, List, [], ◌∷◌, length, Some, None, refl, sym, subst, arith, ◌⊎◌, inl, inr}
 use Rattle.std.proofs.lemmas.Option.{slice_get_within}
 use Rattle.std.specs.Prelude.{slice_get}
 use Rattle.dbpl_code.proofs.Examples.{lines_from, place_of_line, program_of, start_of}
-use Rattle.dbpl_code.specs.Kinds.{Jumping, Kind, Leads, Whole}
+use Rattle.dbpl_code.specs.Kinds.{Kind, Leads, Whole}
 use Rattle.dbpl_code.specs.Typing.{EntersBy, EntersOn, Fits, GoesOnInto, HasStack, IsEntered, IsTyped, IsTypedRoutine, JumpsInto, fits_on}
 use Rattle.dbpl_code.specs.declared.coded.Coded.{Coded}
 use Rattle.dbpl_code.specs.declared.image.Image.{Image}

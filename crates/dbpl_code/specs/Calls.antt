@@ -2,7 +2,7 @@
 use Rattle.std.specs.Prelude.{ℕ, suc, ◌+◌, Bool, false, true, nat_le, if◌then◌else◌, List, [], ◌∷◌, ◌++◌, length, map, reverse, slice_get, Option, Some, option_and_then, option_map}
 use Rattle.dbpl_base.specs.declared.place.Place.{Place}
 use Rattle.dbpl_code.specs.Running.{Caller, Config, Ended, Machine, Operand, Over, Running, is_outside, on_reference, on_there, on_value, trapped, type_numbered}
-use Rattle.dbpl_code.specs.Sessions.{Session, in_store}
+use Rattle.dbpl_code.specs.Sessions.{in_store}
 use Rattle.dbpl_code.specs.declared.image.Image.{Image}
 use Rattle.dbpl_code.specs.declared.routine_entry.RoutineEntry.{RoutineEntry}
 use Rattle.dbpl_code.specs.declared.slot.Slot.{Slot}

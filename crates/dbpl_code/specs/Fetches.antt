@@ -1,5 +1,5 @@
--- How many records of relations a row fetches. It counts what a row looks up by a key and what it goes through; nothing uses it
--- yet. A row that traps counts what it followed.
+-- How many records of relations a row fetches. It counts what a row looks up by a key and what it goes through; nothing
+-- uses it yet. A row that traps counts what it followed.
 use Rattle.std.specs.Prelude.{ℕ, ◌+◌, sum_by, Bool, false, not, ◌&&◌, if◌then◌else◌, List, [], ◌∷◌, length, slice_get, Option, Some, None, option_map, Result, Ok, Err}
 use Rattle.std.specs.Option.{option_map_or}
 use Rattle.dbpl_code.specs.Running.{Config, Given, Operand, Refers}

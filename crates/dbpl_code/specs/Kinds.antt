@@ -1,5 +1,5 @@
 -- The types of what stands on the stack, and the words of which the typing of code is made.
-use Rattle.std.specs.Prelude.{ℕ, zero, suc, Bool, false, true, if◌then◌else◌, List, [], ◌∷◌, ◌++◌, slice_get, Option, Some, None}
+use Rattle.std.specs.Prelude.{ℕ, Bool, false, true, if◌then◌else◌, List, [], ◌∷◌, ◌++◌, Option, Some, None}
 use Rattle.dbpl_value.specs.Equality.{is_same_type}
 use Rattle.dbpl_value.specs.Types.{is_ordinal}
 use Rattle.dbpl_value.specs.declared.db_type.DbType.{DbType}

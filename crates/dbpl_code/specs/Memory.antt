@@ -11,7 +11,8 @@ load_row place c =
     on_part place c reference (λ v.
     unless_barred place c reference (goes_on c (Given v ∷ rest))))
 
--- Store: no transaction is trap 12, a number outside the type trap 3, an element that isn't there 10, a record too large 14
+-- Store: no transaction is trap 12, a number outside the type trap 3, an element that isn't there 10, a record too
+-- large 14
 unfoldable pub store_row : Place → Config → Machine
 store_row place c =
     on_value c c.stack (λ v rest.

@@ -1,5 +1,5 @@
 -- The rows of references.
-use Rattle.std.specs.Prelude.{ℕ, ◌-ℤ◌, nat_abs, Bool, not, ◌&&◌, nat_eq, if◌then◌else◌, List, [], ◌∷◌, ◌++◌, length, map, slice_get, Option, None, option_and_then}
+use Rattle.std.specs.Prelude.{ℕ, ◌-ℤ◌, nat_abs, Bool, not, nat_eq, if◌then◌else◌, List, [], ◌∷◌, ◌++◌, length, map, slice_get, Option, None, option_and_then}
 use Rattle.std.specs.List.{list_any, zip}
 use Rattle.dbpl_base.specs.declared.place.Place.{Place}
 use Rattle.dbpl_code.specs.Running.{Config, Machine, Refers, goes_on, is_outside, on_key, on_number, on_reference, on_there, stuck, trapped}

@@ -1,5 +1,5 @@
--- What the machine is at a moment, and the words of which the rows of the table are made. A row takes its operands by these
--- words, and is stuck where one isn't there.
+-- What the machine is at a moment, and the words of which the rows of the table are made. A row takes its operands by
+-- these words, and is stuck where one isn't there.
 use Rattle.std.specs.Prelude.{ℕ, zero, suc, ◌+◌, ℤ, Bool, false, not, if◌then◌else◌, List, [], ◌∷◌, ◌++◌, slice_get, Option, Some, None, Result, Ok, Err}
 use Rattle.dbpl_base.specs.declared.place.Place.{Place}
 use Rattle.dbpl_code.specs.Sessions.{Session, is_barred, is_small_at, put_led_to, value_led_to}
@@ -27,8 +27,8 @@ pub record Caller : Type 0 where
   pub at : ℕ
   pub place : Place
 
--- A machine that runs: the routine and the address of the line that is next, the stack, the last operand first, the callers,
--- the last first, and the session. A call leaves what stands below its arguments on the stack.
+-- A machine that runs: the routine and the address of the line that is next, the stack, the last operand first, the
+-- callers, the last first, and the session. A call leaves what stands below its arguments on the stack.
 pub record Config : Type 0 where
   pub routine : ℕ
   pub at : ℕ
@@ -41,8 +41,8 @@ pub data Ending : Type 0 where
   Ended : Ending
   Trapped : Trap → Ending
 
--- A machine. It is stuck where an operand, a slot, a variable, a routine, a type, a text or a line is missing; no run of a
--- typed image comes there.
+-- A machine. It is stuck where an operand, a slot, a variable, a routine, a type, a text or a line is missing; no run
+-- of a typed image comes there.
 pub data Machine : Type 0 where
   Running : Config → Machine
   Over : Ending → Session → Machine

@@ -5,13 +5,12 @@
 -- A relation variable of the database is known by its number among those that the program names, in the order of units
 -- and declarations. No effect of `dbpl_core` has an answer for a reference that begins with one; those here have.
 use Rattle.std.specs.Prelude.{ℕ, Bool, true, not, ◌&&◌, if◌then◌else◌, List, [], ◌∷◌, ◌++◌, position, slice_get, Option, Some, None, is_some, option_and_then, option_map, unwrap_or, Result, Ok, Err}
-use Rattle.std.specs.Option.{option_map_or}
 use Rattle.dbpl_core.specs.Events.{Commit}
 use Rattle.dbpl_core.specs.Stores.{Held, Store, held_at, puts}
 use Rattle.dbpl_core.specs.declared.reference.Reference.{Reference}
 use Rattle.dbpl_core.specs.declared.reference_root.ReferenceRoot.{ReferenceRoot}
 use Rattle.dbpl_core.specs.declared.reference_root.ReferenceRoot.TheVariants as root
-use Rattle.dbpl_value.specs.Binding.{holding, with_relation}
+use Rattle.dbpl_value.specs.Binding.{with_relation}
 use Rattle.dbpl_value.specs.Databases.{are_small}
 use Rattle.dbpl_value.specs.Paths.{part_at, type_at_path, with_part_at}
 use Rattle.dbpl_value.specs.Types.{is_same_name}
@@ -21,7 +20,8 @@ use Rattle.dbpl_value.specs.declared.path_err.PathErr.{PathErr}
 use Rattle.dbpl_value.specs.declared.step.Step.{Step}
 use Rattle.dbpl_value.specs.declared.value.Value.{Value}
 
--- A store, the names of the relation variables by their numbers, and, while a transaction runs, the database from before it.
+-- A store, the names of the relation variables by their numbers, and, while a transaction runs, the database from
+-- before it.
 pub record Session : Type 0 where
   pub store : Store
   pub relations : List (List ℕ)
@@ -108,8 +108,8 @@ abbrev pub is_small_held : Option Held → Bool
 is_small_held None = true
 is_small_held (Some held) = are_small held.kind held.value
 
--- THE test of what was put: where the reference begins with a relation variable, none of its records takes more bytes than
--- it may. All others were so small before, so it is a test of the records that were put, each as a whole.
+-- THE test of what was put: where the reference begins with a relation variable, none of its records takes more bytes
+-- than it may. All others were so small before, so it is a test of the records that were put, each as a whole.
 unfoldable pub is_small_at : ReferenceRoot → Session → Bool
 is_small_at at session =
     if is_some (relation_number at) then is_small_held (held_from at session) else true

@@ -109,8 +109,8 @@ started_at image database input globals routine =
     (option_and_then (λ start. started_cells image (slot_kinds start.locals)) routine)
     (never_started image database input)
 
--- THE machine at the start: at address 0 of routine 0, its slots and the module variables at their start, and no transaction.
--- The database is one to which the relation variables of the image are bound, the input a list of bytes.
+-- THE machine at the start: at address 0 of routine 0, its slots and the module variables at their start, and no
+-- transaction. The database is one to which the relation variables of the image are bound, the input a list of bytes.
 unfoldable pub start : Image → List Bound → List ℕ → Machine
 start image database input =
     option_map_or (λ globals. started_at image database input globals (slice_get image.routines 0))

@@ -1,5 +1,5 @@
--- The table of instructions: the code of each, and its operands as numbers of a width. Codes count from 0 in the order of the
--- table; the bytes of a line are the code, the place and the operands.
+-- The table of instructions: the code of each, and its operands as numbers of a width. Codes count from 0 in the order
+-- of the table; the bytes of a line are the code, the place and the operands.
 use Rattle.std.specs.Prelude.{ℕ, ℤ, List, [], ◌∷◌}
 use Rattle.dbpl_code.specs.declared.change_operator.ChangeOperator.{ChangeOperator}
 use Rattle.dbpl_code.specs.declared.change_operator.ChangeOperator.TheVariants as changes

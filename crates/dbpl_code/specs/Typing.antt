@@ -20,7 +20,6 @@ use Rattle.dbpl_value.specs.Databases.{is_kept}
 use Rattle.dbpl_value.specs.Types.{are_different, element_of, fields_of, is_char_array, is_record, is_same_name, is_type, keys_of}
 use Rattle.dbpl_value.specs.declared.db_type.DbType.{DbType, DbType-F, out-DbType}
 use Rattle.dbpl_value.specs.declared.db_type.DbType.TheOpen as kinds
-use Rattle.dbpl_value.specs.declared.field.Field.{Field}
 
 -- ---- routines and their slots
 
@@ -216,8 +215,8 @@ abbrev pub JumpsInto : List (List Kind) → Option Jumping → Type 0
 JumpsInto stacks None = Unit {0}
 JumpsInto stacks (Some jump) = HasStack stacks jump.address jump.kinds
 
--- A line of a routine with its address and the stack that it finds there fits, and leads to addresses that are there and
--- have the stacks with which it leads there.
+-- A line of a routine with its address and the stack that it finds there fits, and leads to addresses that are there
+-- and have the stacks with which it leads there.
 pub record Fits (image : Image) (routine : RoutineEntry) (stacks : List (List Kind)) (at : ℕ) (line : Coded) (stack : List Kind) : Type 0 where
   pub leads : Leads
   pub fits : fits_on image routine line.instr stack ≡ Some leads
@@ -245,8 +244,8 @@ pub record IsEntered (image : Image) (routine : RoutineEntry) (stacks : List (Li
   pub fits : fits_on image routine line.instr stack ≡ Some leads
   pub enters : EntersOn from at leads.on ⊎ EntersBy at leads.jump
 
--- THE typed routines. Each address has one stack, the first the empty one, so there is a line; each line fits its own; and
--- each address but the first is entered.
+-- THE typed routines. Each address has one stack, the first the empty one, so there is a line; each line fits its own;
+-- and each address but the first is entered.
 pub record IsTypedRoutine (image : Image) (routine : RoutineEntry) : Type 0 where
   pub stacks : List (List Kind)
   pub each : length stacks ≡ length routine.lines

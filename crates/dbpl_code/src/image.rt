@@ -2,8 +2,8 @@ use crate::{GlobalEntry, RelEntry, RoutineEntry};
 use dbpl_base::{List, Name};
 use dbpl_value::DbType;
 
-/// The code of a whole program, in which every item is defined. Routine 0 is the start. `specs/Typing.antt` says which images
-/// are typed.
+/// The code of a whole program, in which every item is defined. Routine 0 is the start. `specs/Typing.antt` says which
+/// images are typed.
 #[derive(Drop)]
 pub struct Image {
     /// The name of the program module.

@@ -3,9 +3,9 @@ use dbpl_core::Relation;
 
 /// An instruction of the machine, with its operands. The variants stand in the order of their opcodes, from 0.
 ///
-/// `W` is a whole number of 64 bits, which is the value of each ordinal type. `specs/Steps.antt` says what each does, and
-/// `specs/Typing.antt` which operands it takes and leaves. Numbers of addresses, routines, slots, variables, relations, fields,
-/// types and texts are positions in their lists, from 0.
+/// `W` is a whole number of 64 bits, which is the value of each ordinal type. `specs/Steps.antt` says what each does,
+/// and `specs/Typing.antt` which operands it takes and leaves. Numbers of addresses, routines, slots, variables,
+/// relations, fields, types and texts are positions in their lists, from 0.
 #[derive(Drop)]
 pub enum Instr {
     /// Gives this number.
@@ -68,7 +68,8 @@ pub enum Instr {
     Empty(u32),
     /// Gives the least record with so many first components of its key; goes to the address where there is none.
     Least(u32, u32),
-    /// Gives the next greater record with the same so many first components of its key; goes to the address where there is none.
+    /// Gives the next greater record with the same so many first components of its key; goes to the address where there
+    /// is none.
     Next(u32, u32),
     /// Adds a record to a relation, and gives whether it would clash.
     Gather,

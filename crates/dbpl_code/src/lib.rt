@@ -1,5 +1,6 @@
-//! The code of compiled programs: instructions of a plain stack machine, the objects and images that hold them, what each
-//! instruction does, and which images are typed. Whatever makes, joins, reads or runs code stands on these definitions.
+//! The code of compiled programs: instructions of a plain stack machine, the objects and images that hold them, what
+//! each instruction does, and which images are typed. Whatever makes, joins, reads or runs code stands on these
+//! definitions.
 #![tactic(auto)]
 
 mod change_operator;

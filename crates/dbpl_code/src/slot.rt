@@ -1,4 +1,5 @@
-/// A parameter or local variable of a routine. Slots count from the first parameter on, the local variables behind them.
+/// A parameter or local variable of a routine. Slots count from the first parameter on, the local variables behind
+/// them.
 #[derive(Drop)]
 pub struct Slot {
     /// It holds a reference, as a VAR parameter does.
