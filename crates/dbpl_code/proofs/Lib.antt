@@ -5,3 +5,4 @@ pub mod MemoryExamples
 pub mod RelationExamples
 pub mod Steps
 pub mod TypingExamples
+pub mod ValueExamples
