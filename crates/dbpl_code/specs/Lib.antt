@@ -5,6 +5,7 @@ pub mod Jumps
 pub mod Kinds
 pub mod Memory
 pub mod Numbers
+pub mod Places
 pub mod References
 pub mod Relations
 pub mod Running

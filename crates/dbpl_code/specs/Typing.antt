@@ -79,7 +79,7 @@ return_leads image routine stack =
     with_there (result_kinds image routine.result) (λ result. where_so (are_kinds result stack) leads_nowhere)
 
 abbrev pub is_key_name : DbType → List ℕ → Bool
-is_key_name t name = list_any (λ key. is_same_name key name) (keys_of t)
+is_key_name t name = list_any (is_same_name name) (keys_of t)
 
 -- a field of a record; of an element one that is no key
 abbrev pub field_leads : ℕ → List Kind → Option Leads
