@@ -3,6 +3,7 @@ pub mod Examples
 pub mod Growing
 pub mod KeptKeys
 pub mod MemoryExamples
+pub mod Paths
 pub mod RelationExamples
 pub mod Steps
 pub mod TypingExamples
