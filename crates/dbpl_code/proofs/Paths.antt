@@ -205,3 +205,97 @@ path-keeps place (next ∷ path) u v new e =
     by_part : {P : Value → Type 0} → ((part : Value) → P part) → (there : Option Value) → IfSome there P
     by_part so None = tt
     by_part so (Some part) = so part
+
+-- ---- parts
+
+below-there : {X : Type 0} (xs : List X) (n : ℕ) → n < length xs → slice_get xs n ≡ None → ⊥
+below-there [] n h e = absurd (omega arith)
+below-there (x ∷ xs) zero h e = absurd (cc (e))
+below-there (x ∷ xs) (suc n) h e = below-there xs n (omega arith) e
+
+-- a record has a part in each of its fields
+field-filled :
+    (level : DbType-F DbType Field) (v : Value-F Value) (n : ℕ) (field : Field) → is_of_level (tested level) v ≡ true →
+    slice_get (fields_level level) n ≡ Some field → slice_get (parts_level v) n ≡ None → ⊥
+field-filled kinds.Int v n field h e none = absurd (cc (e))
+field-filled kinds.Card v n field h e none = absurd (cc (e))
+field-filled kinds.Bool v n field h e none = absurd (cc (e))
+field-filled kinds.Char v n field h e none = absurd (cc (e))
+field-filled (kinds.Enum names) v n field h e none = absurd (cc (e))
+field-filled (kinds.Sub host least greatest) v n field h e none = absurd (cc (e))
+field-filled (kinds.Arr index element) v n field h e none = absurd (cc (e))
+field-filled (kinds.Rel keys record_type) v n field h e none = absurd (cc (e))
+field-filled (kinds.Rec fields) (values.Num number) n field h e none = absurd (cc (h))
+field-filled (kinds.Rec fields) (values.Arr parts) n field h e none = absurd (cc (h))
+field-filled (kinds.Rec fields) (values.Rel parts) n field h e none = absurd (cc (h))
+field-filled (kinds.Rec fields) (values.Rec parts) n field h e none =
+    let long : length parts ≡ length fields =
+    eqb-true (length parts) _ (first_so (nat_eq (length parts) _) _ h) ∙ simp length-map in
+    let within : n < length fields = slice_get_within fields n field e in
+    below-there parts n (omega arith) none
+
+-- an array has a part at each of its indices
+index-filled :
+    (level : DbType-F DbType Field) (v : Value-F Value) (n : ℕ) (element : DbType) →
+    is_of_level (tested level) v ≡ true → array_element_level level ≡ Some element →
+    nat_lt n (index_count_level level) ≡ true → slice_get (parts_level v) n ≡ None → ⊥
+index-filled kinds.Int v n element h e below none = absurd (cc (e))
+index-filled kinds.Card v n element h e below none = absurd (cc (e))
+index-filled kinds.Bool v n element h e below none = absurd (cc (e))
+index-filled kinds.Char v n element h e below none = absurd (cc (e))
+index-filled (kinds.Enum names) v n element h e below none = absurd (cc (e))
+index-filled (kinds.Sub host least greatest) v n element h e below none = absurd (cc (e))
+index-filled (kinds.Rec fields) v n element h e below none = absurd (cc (e))
+index-filled (kinds.Rel keys record_type) v n element h e below none = absurd (cc (e))
+index-filled (kinds.Arr index inner) (values.Num number) n element h e below none = absurd (cc (h))
+index-filled (kinds.Arr index inner) (values.Rec parts) n element h e below none = absurd (cc (h))
+index-filled (kinds.Arr index inner) (values.Rel parts) n element h e below none = absurd (cc (h))
+index-filled (kinds.Arr index inner) (values.Arr parts) n element h e below none =
+    let long : length parts ≡ count_of index = eqb-true (length parts) _ (first_so (nat_eq (length parts) _) _ h) in
+    let within : n < count_of index = grind (arith, nat_tests, below) in
+    below-there parts n (omega arith) none
+
+-- where a step leads to no part it was one to an element
+step-missing :
+    (number : ℕ) (place : PlaceKind) (next : Step) (between found : PlaceKind) (v : Value) →
+    next_place place next ≡ Some between → is_of (type_there place) v ≡ true →
+    slice_get (parts_of v) (place_of (type_there place) v next) ≡ None → GivesPart found (Err (refusal_of number next))
+step-missing number (Of t) (step.Field n) between found v e h none =
+    let at = field-inverse any_field (slice_get (fields_of t) n) between e in
+    absurd (field-filled (out-DbType t) (out-Value v) n at.field (sym (is_of-out t v) ∙ h) at.is none)
+step-missing number (Of t) (step.Index n) between found v e h none =
+    let at = index-inverse (nat_lt n (index_count t)) (array_element t) between e in
+    absurd (index-filled (out-DbType t) (out-Value v) n at.element (sym (is_of-out t v) ∙ h) at.is at.below none)
+step-missing number (Of t) (step.Key key) between found v e h none = tt
+step-missing number (Within t) (step.Field n) between found v e h none =
+    let at = field-inverse (is_no_key t) (slice_get (fields_of (element_of t)) n) between e in
+    absurd (field-filled (out-DbType (element_of t)) (out-Value v) n at.field (sym (is_of-out (element_of t) v) ∙ h) at.is none)
+step-missing number (Within t) (step.Index n) between found v e h none = absurd (cc (e))
+step-missing number (Within t) (step.Key key) between found v e h none = absurd (cc (e))
+
+-- a path gives a part of the type of its place, or there is no such element
+pub path-gives :
+    (number : ℕ) (place : PlaceKind) (path : List Step) (found : PlaceKind) (v : Value) →
+    place_led_to place path ≡ Some found → is_of (type_there place) v ≡ true →
+    GivesPart found (part_at number (type_there place) v path)
+path-gives number place [] found v e h =
+    let same : place ≡ found = cc (e) in ap (λ (p : PlaceKind). is_of (type_there p) v) (sym same) ∙ h
+path-gives number place (next ∷ path) found v e h =
+    let by = step-inverse place next path found e in
+    by_part by (λ part of_type. path-gives (number + 1) by.between path found part by.rest of_type)
+    (slice_get (parts_of v) (place_of (type_there place) v next)) refl
+  where
+    by_part :
+        (by : ByStep place next path found) →
+        ((part : Value) → is_of (type_there by.between) part ≡ true →
+        GivesPart found (part_at (number + 1) (type_there by.between) part path)) →
+        (there : Option Value) → slice_get (parts_of v) (place_of (type_there place) v next) ≡ there →
+        GivesPart found
+        (option_map_or (λ part. part_at (number + 1) (type_at_step (type_there place) next) part path) there
+        (Err (refusal_of number next)))
+    by_part by deeper None none = step-missing number place next by.between found v by.first h none
+    by_part by deeper (Some part) is =
+        let same = type-next place next by.between by.first in
+        let of_type : is_of (type_there by.between) part ≡ true =
+        ap (λ (t : DbType). is_of t part) (sym same) ∙ is_of-step (type_there place) v next part h is in
+        subst (λ (t : DbType). GivesPart found (part_at (number + 1) t part path)) (sym same) (deeper part of_type)
