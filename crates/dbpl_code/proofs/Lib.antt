@@ -1,6 +1,7 @@
 pub mod CallExamples
 pub mod Examples
 pub mod Growing
+pub mod Held
 pub mod KeptKeys
 pub mod MemoryExamples
 pub mod Paths

@@ -13,5 +13,6 @@ pub mod Sessions
 pub mod Steps
 pub mod Table
 pub mod Transactions
+pub mod TypedRuns
 pub mod Typing
 pub mod Values
