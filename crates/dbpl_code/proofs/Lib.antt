@@ -5,6 +5,7 @@ pub mod Held
 pub mod KeptKeys
 pub mod MemoryExamples
 pub mod Paths
+pub mod Put
 pub mod RelationExamples
 pub mod Steps
 pub mod TypingExamples
