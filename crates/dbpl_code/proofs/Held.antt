@@ -1,17 +1,16 @@
 -- In a session of typed code a reference that the table types finds a value of its type.
-use Rattle.std.proofs.Common.{◌≡◌, ◌+◌, ◌++◌, ℕ, zero, suc, Bool, true, false, if◌then◌else◌, List, [], ◌∷◌, map, Option, Some, None, option_and_then, option_map, Result, Ok, Err, refl, ap, sym, subst, ◌∙◌}
+use Rattle.std.proofs.Common.{◌≡◌, ◌++◌, ℕ, zero, suc, Bool, true, false, if◌then◌else◌, List, [], ◌∷◌, map, Option, Some, None, option_and_then, option_map, Result, refl, ap, sym, ◌∙◌}
 use Rattle.std.specs.Prelude.{position, slice_get}
-use Rattle.std.specs.List.{list_all}
 use Rattle.dbpl_code.proofs.Paths.{path-gives, type-led_to}
-use Rattle.dbpl_code.specs.Places.{GivesPart, Of, PlaceKind, Within, place_led_to, type_there}
+use Rattle.dbpl_code.specs.Places.{GivesPart, Of, PlaceKind, place_led_to, type_there}
 use Rattle.dbpl_code.specs.Running.{type_numbered}
-use Rattle.dbpl_code.specs.Sessions.{Session, bound_at, held_by, held_from, held_of, kind_led_to, relation_number, relation_place, value_led_to}
-use Rattle.dbpl_code.specs.TypedRuns.{CellIs, CellsAre, FramesAre, GlobalIs, GlobalsAre, HoldsTyped, IsTypedSession, StandsIn, Suits, place_numbered, reference_place, root_place, slot_at, slot_place}
+use Rattle.dbpl_code.specs.Sessions.{Session, bound_at, held_by, held_from, held_of, kind_led_to, relation_place, value_led_to}
+use Rattle.dbpl_code.specs.TypedRuns.{CellIs, CellsAre, FramesAre, GlobalIs, GlobalsAre, HoldsTyped, IsTypedSession, place_numbered, reference_place, root_place, slot_at, slot_place}
 use Rattle.dbpl_code.specs.declared.global_entry.GlobalEntry.{GlobalEntry}
 use Rattle.dbpl_code.specs.declared.image.Image.{Image}
 use Rattle.dbpl_code.specs.declared.rel_entry.RelEntry.{RelEntry}
 use Rattle.dbpl_code.specs.declared.slot.Slot.{Slot}
-use Rattle.dbpl_core.specs.Stores.{Held, held_at, held_in}
+use Rattle.dbpl_core.specs.Stores.{Held, held_in}
 use Rattle.dbpl_core.specs.declared.cell.Cell.{Cell}
 use Rattle.dbpl_core.specs.declared.cell.Cell.TheVariants as cell
 use Rattle.dbpl_core.specs.declared.reference.Reference.{Reference}
@@ -120,13 +119,20 @@ module _ (image : Image) where
   get-map f (y ∷ ys) (suc n) x e = get-map f ys n x e
 
   module _ (shapes : List (List Slot)) (session : Session) (typed : IsTypedSession image shapes session) where
-    entry-held :
-        (number : ℕ) (at : ReferenceRoot) (place : PlaceKind) (found : Option RelEntry) →
-        slice_get image.relations number ≡ found →
-        option_and_then (λ (entry : RelEntry). place_numbered image entry.kind) found ≡ Some place →
-        HeldAs place (held_by (Some number) at session)
-    entry-held number at place None is e = absurd (cc (e))
-    entry-held number at place (Some entry) is e =
+    -- a relation variable of the database, where it stands
+    pub record Found (number : ℕ) (place : PlaceKind) : Type 0 where
+      pub place_in : ℕ
+      pub there : relation_place number session ≡ Some place_in
+      pub bound : Bound
+      pub is : bound_at place_in session ≡ Some bound
+      pub at : Of bound.kind ≡ place
+      pub of_type : is_of bound.kind bound.rel ≡ true
+
+    entry-found :
+        (number : ℕ) (place : PlaceKind) (found : Option RelEntry) → slice_get image.relations number ≡ found →
+        option_and_then (λ (entry : RelEntry). place_numbered image entry.kind) found ≡ Some place → Found number place
+    entry-found number place None is e = absurd (cc (e))
+    entry-found number place (Some entry) is e =
         let stands = typed.database.stands number entry is in
         let name : slice_get session.relations number ≡ Some entry.name =
         ap (λ (names : List (List ℕ)). slice_get names number) typed.relations
@@ -137,15 +143,32 @@ module _ (image : Image) where
         name
         ∙ stands.first in
         record {
-          held = held_of stands.bound;
-          is =
-            ap (λ (o : Option ℕ). option_map held_of (option_and_then (λ (n : ℕ). bound_at n session) o)) there
-            ∙ ap (λ (o : Option Bound). option_map held_of o) stands.there;
+          place_in = stands.place;
+          there = there;
+          bound = stands.bound;
+          is = stands.there;
           at = numbered-place entry.kind stands.bound.kind place stands.numbered e;
-          typed =
-            list_all-slice_get (λ (bound : Bound). is_of bound.kind bound.rel) session.store.database stands.place
-            stands.bound typed.database.typed stands.there;
+          of_type =
+              list_all-slice_get (λ (bound : Bound). is_of bound.kind bound.rel) session.store.database stands.place
+              stands.bound typed.database.typed stands.there;
         }
+
+    pub relation-found :
+        (number : ℕ) (place : PlaceKind) → root_place image shapes (root.Relation number) ≡ Some place →
+        Found number place
+    relation-found number place e = entry-found number place (slice_get image.relations number) refl e
+
+    relation-held :
+        (number : ℕ) (at : ReferenceRoot) (place : PlaceKind) → Found number place →
+        HeldAs place (held_by (Some number) at session)
+    relation-held number at place found = record {
+      held = held_of found.bound;
+      is =
+          ap (λ (o : Option ℕ). option_map held_of (option_and_then (λ (n : ℕ). bound_at n session) o)) found.there
+          ∙ ap (λ (o : Option Bound). option_map held_of o) found.is;
+      at = found.at;
+      typed = found.of_type;
+    }
 
     -- a reference begins with a value of the type of its place
     pub root-held :
@@ -157,17 +180,17 @@ module _ (image : Image) where
     root-held (root.Slot frame slot) place e =
         frames-hold [] shapes session.store.frames frame slot place typed.frames e
     root-held (root.Relation number) place e =
-        entry-held number (root.Relation number) place (slice_get image.relations number) refl e
+        relation-held number (root.Relation number) place (relation-found number place e)
 
     -- ---- where references lead
 
     -- the place with which a reference begins, and that to which its path leads
-    record FromRoot (reference : Reference) (found : PlaceKind) : Type 0 where
-      place : PlaceKind
-      first : root_place image shapes reference.root ≡ Some place
-      rest : place_led_to place reference.path ≡ Some found
+    pub record FromRoot (reference : Reference) (found : PlaceKind) : Type 0 where
+      pub place : PlaceKind
+      pub first : root_place image shapes reference.root ≡ Some place
+      pub rest : place_led_to place reference.path ≡ Some found
 
-    from-root :
+    pub from-root :
         (reference : Reference) (found : PlaceKind) → reference_place image shapes reference ≡ Some found →
         FromRoot reference found
     from-root reference found e = by_root (root_place image shapes reference.root) refl e
@@ -210,8 +233,8 @@ module _ (image : Image) where
         record {
           result = part_at 0 held.held.kind held.held.value reference.path;
           is =
-            ap (λ (o : Option Held). option_map (λ (h : Held). part_at 0 h.kind h.value reference.path) o) held.is;
+              ap (λ (o : Option Held). option_map (λ (h : Held). part_at 0 h.kind h.value reference.path) o) held.is;
           gives =
-            path-gives 0 (Of held.held.kind) reference.path found held.held.value
-            (ap (λ (place : PlaceKind). place_led_to place reference.path) held.at ∙ from.rest) held.typed;
+              path-gives 0 (Of held.held.kind) reference.path found held.held.value
+              (ap (λ (place : PlaceKind). place_led_to place reference.path) held.at ∙ from.rest) held.typed;
         }

@@ -6,6 +6,7 @@ pub mod KeptKeys
 pub mod MemoryExamples
 pub mod Paths
 pub mod Put
+pub mod PutLed
 pub mod RelationExamples
 pub mod Steps
 pub mod TypingExamples

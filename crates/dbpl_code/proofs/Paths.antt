@@ -1,11 +1,10 @@
 -- What a path leads to that the table types: a part of the type of its place, and it changes no key.
-use Rattle.std.proofs.Common.{◌≡◌, ◌<◌, ◌+◌, ℕ, zero, suc, Bool, true, false, not, ◌&&◌, List, [], ◌∷◌, length, map, Option, Some, None, option_and_then, Result, Ok, Err, refl, ap, sym, subst, ◌∙◌, arith}
+use Rattle.std.proofs.Common.{◌≡◌, ◌<◌, ◌+◌, ℕ, zero, suc, Bool, true, false, not, ◌&&◌, List, [], ◌∷◌, length, Option, Some, None, option_and_then, Err, refl, ap, sym, subst, ◌∙◌, arith}
 use Rattle.std.proofs.lemmas.Bool.Decides.{nat_tests}
 use Rattle.std.proofs.lemmas.Bool.{eqb-true}
 use Rattle.std.proofs.lemmas.List.{length-map}
 use Rattle.std.proofs.lemmas.Option.{slice_get_within}
-use Rattle.std.specs.Cmp.{first_so, second_so}
-use Rattle.std.specs.List.{list_all, list_any}
+use Rattle.std.specs.Cmp.{first_so}
 use Rattle.std.specs.Option.{option_map_or}
 use Rattle.std.specs.Prelude.{IfSome, nat_eq, nat_lt, slice_get}
 use Rattle.dbpl_code.proofs.KeptKeys.{key-beside}
@@ -15,13 +14,12 @@ use Rattle.dbpl_meaning.specs.Expressions.{index_count, index_count_level}
 use Rattle.dbpl_relation.specs.Relations.{is_relation_type}
 use Rattle.dbpl_value.proofs.ValuesLemmas.{is_of-out, is_of-step, tested}
 use Rattle.dbpl_value.specs.Keys.{key_of, parts_level, parts_of}
-use Rattle.dbpl_value.specs.Paths.{KeepsKeys, part_at, part_type, part_type_level, place_of, refusal_of, type_at_path, type_at_step, with_part, with_part_at}
-use Rattle.dbpl_value.specs.Types.{count_of, element_of, fields_level, fields_of, is_same_name, keys_level, keys_of}
+use Rattle.dbpl_value.specs.Paths.{KeepsKeys, part_at, part_type_level, place_of, refusal_of, type_at_path, type_at_step, with_part, with_part_at}
+use Rattle.dbpl_value.specs.Types.{count_of, element_of, fields_level, fields_of, keys_level, keys_of}
 use Rattle.dbpl_value.specs.Values.{is_of, is_of_level}
 use Rattle.dbpl_value.specs.declared.db_type.DbType.{DbType, DbType-F, out-DbType}
 use Rattle.dbpl_value.specs.declared.db_type.DbType.TheOpen as kinds
 use Rattle.dbpl_value.specs.declared.field.Field.{Field}
-use Rattle.dbpl_value.specs.declared.path_err.PathErr.{PathErr}
 use Rattle.dbpl_value.specs.declared.step.Step.{Step}
 use Rattle.dbpl_value.specs.declared.step.Step.TheVariants as step
 use Rattle.dbpl_value.specs.declared.value.Value.{Value, Value-F, out-Value}
@@ -196,10 +194,11 @@ pub path-keeps :
 path-keeps place [] u v new e = tt
 path-keeps place (next ∷ path) u v new e =
     let by = step-inverse place next path (Of u) e in
-    by_part (λ part.
-    (step-keeps place next path by.between u part new by.first by.rest,
-    subst (λ (t : DbType). KeepsKeys t part path new) (sym (type-next place next by.between by.first))
-    (path-keeps by.between path u part new by.rest)))
+    by_part (λ part. (
+      step-keeps place next path by.between u part new by.first by.rest,
+      subst (λ (t : DbType). KeepsKeys t part path new) (sym (type-next place next by.between by.first))
+          (path-keeps by.between path u part new by.rest),
+    ))
     (slice_get (parts_of v) (place_of (type_there place) v next))
   where
     by_part : {P : Value → Type 0} → ((part : Value) → P part) → (there : Option Value) → IfSome there P

@@ -1,20 +1,16 @@
 -- What is put where a typed reference leads leaves the session typed.
-use Rattle.std.proofs.Common.{◌≡◌, ◌+◌, ◌++◌, ℕ, zero, suc, Bool, true, false, if◌then◌else◌, List, [], ◌∷◌, length, map, Option, Some, None, option_and_then, option_map, Result, Ok, Err, refl, ap, sym, subst, ◌∙◌}
+use Rattle.std.proofs.Common.{◌≡◌, ◌++◌, ℕ, zero, suc, Bool, true, List, [], ◌∷◌, Option, Some, option_and_then, refl, ap, sym, subst, ◌∙◌}
 use Rattle.std.proofs.Math.ListN.{length-set}
-use Rattle.std.specs.List.{list_all, position_or_len}
+use Rattle.std.specs.List.{position_or_len}
 use Rattle.std.specs.Option.{option_map_or}
-use Rattle.std.specs.Prelude.{nat_lt, position, slice_get, slice_set}
-use Rattle.dbpl_code.proofs.Held.{HeldAs}
-use Rattle.dbpl_code.specs.TypedRuns.{CellIs, CellsAre, FramesAre, GlobalIs, GlobalsAre, HoldsTyped, StandsIn, Suits}
-use Rattle.dbpl_code.specs.Running.{type_numbered}
+use Rattle.std.specs.Prelude.{position, slice_get, slice_set}
+use Rattle.dbpl_code.specs.TypedRuns.{CellIs, CellsAre, FramesAre, GlobalIs, GlobalsAre, HoldsTyped, Suits}
 use Rattle.dbpl_code.specs.declared.global_entry.GlobalEntry.{GlobalEntry}
 use Rattle.dbpl_code.specs.declared.image.Image.{Image}
-use Rattle.dbpl_code.specs.declared.rel_entry.RelEntry.{RelEntry}
 use Rattle.dbpl_code.specs.declared.slot.Slot.{Slot}
 use Rattle.dbpl_core.specs.Stores.{Held, changed_at, held_in}
 use Rattle.dbpl_core.specs.declared.cell.Cell.{Cell}
 use Rattle.dbpl_core.specs.declared.cell.Cell.TheVariants as cell
-use Rattle.dbpl_core.specs.declared.reference.Reference.{Reference}
 use Rattle.dbpl_value.proofs.PutLemmas.{list_all-slice_set}
 use Rattle.dbpl_value.specs.Binding.{holding, with_relation}
 use Rattle.dbpl_value.specs.Types.{is_same_name}
@@ -138,15 +134,15 @@ module _ (image : Image) (relation : Value) (bound : Bound) (typed : is_of bound
   database-put database place is suits =
       subst (λ (d : List Bound). Suits image d) (sym (put-whole database place is)) (record {
         stands = λ number entry e.
-          let old = suits.stands number entry e in
-          let still = still-there database place old.place old.bound is old.there in
-          record {
-            place = old.place;
-            first = position-same (λ (b : Bound). is_same_name b.name entry.name) database place is refl ∙ old.first;
-            bound = still.other;
-            there = still.is;
-            numbered = old.numbered ∙ ap (λ (t : DbType). Some t) still.kind;
-          };
+            let old = suits.stands number entry e in
+            let still = still-there database place old.place old.bound is old.there in
+            record {
+              place = old.place;
+              first = position-same (λ (b : Bound). is_same_name b.name entry.name) database place is refl ∙ old.first;
+              bound = still.other;
+              there = still.is;
+              numbered = old.numbered ∙ ap (λ (t : DbType). Some t) still.kind;
+            };
         typed =
-          list_all-slice_set (λ (b : Bound). is_of b.kind b.rel) database place (holding relation bound) suits.typed typed;
+            list_all-slice_set (λ (b : Bound). is_of b.kind b.rel) database place (holding relation bound) suits.typed typed;
       })

@@ -1,9 +1,9 @@
 -- Records, arrays of characters and jumps, computed from the table.
-use Rattle.std.proofs.Common.{◌≡◌, ℕ, ℤ, pos, negsuc, List, [], ◌∷◌, refl, codes}
+use Rattle.std.proofs.Common.{◌≡◌, pos, negsuc, List, [], ◌∷◌, refl, codes}
 use Rattle.dbpl_base.specs.declared.place.Place.{Place}
 use Rattle.dbpl_code.proofs.Examples.{config_at, session_with}
 use Rattle.dbpl_code.specs.Jumps.{jump_zero_row}
-use Rattle.dbpl_code.specs.Running.{Config, Given, Machine, Operand, Over, Running, Trapped, goes_on, number_operand, on_number, on_number_level, on_there, on_value, on_values}
+use Rattle.dbpl_code.specs.Running.{Config, Given, Operand, Over, Running, Trapped, number_operand, on_number, on_number_level, on_there, on_value, on_values}
 use Rattle.dbpl_code.specs.Values.{field_row, pack_row, text_row}
 use Rattle.dbpl_code.specs.declared.image.Image.{Image}
 use Rattle.dbpl_meaning.specs.Expressions.{characters}

@@ -1,5 +1,5 @@
 -- What stays true of the variables and the database while typed code runs.
-use Rattle.std.specs.Prelude.{◌≡◌, ℕ, Bool, false, true, if◌then◌else◌, List, [], ◌∷◌, ◌++◌, map, position, slice_get, Option, Some, None, option_and_then, option_map}
+use Rattle.std.specs.Prelude.{◌≡◌, ℕ, false, true, if◌then◌else◌, List, [], ◌∷◌, ◌++◌, map, position, slice_get, Option, Some, None, option_and_then, option_map}
 use Rattle.std.specs.List.{list_all}
 use Rattle.dbpl_code.specs.Places.{Of, PlaceKind, place_led_to}
 use Rattle.dbpl_code.specs.Running.{type_numbered}
