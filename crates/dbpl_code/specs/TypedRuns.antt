@@ -1,8 +1,8 @@
 -- What stays true of the variables and the database while typed code runs.
-use Rattle.std.specs.Prelude.{◌≡◌, ℕ, false, true, if◌then◌else◌, List, [], ◌∷◌, ◌++◌, map, position, slice_get, Option, Some, None, option_and_then, option_map}
+use Rattle.std.specs.Prelude.{◌≡◌, ℕ, false, true, if◌then◌else◌, List, [], ◌∷◌, ◌++◌, map, position, slice_get, Option, Some, None, option_and_then, option_map, ℤ, ◌+◌, ◌⊎◌}
 use Rattle.std.specs.List.{list_all}
-use Rattle.dbpl_code.specs.Places.{Of, PlaceKind, place_led_to}
-use Rattle.dbpl_code.specs.Running.{type_numbered}
+use Rattle.dbpl_code.specs.Places.{Of, PlaceKind, place_led_to, Within}
+use Rattle.dbpl_code.specs.Running.{type_numbered, Config, Given, Machine, Operand, Over, Refers, Running, Stuck}
 use Rattle.dbpl_code.specs.Sessions.{Session}
 use Rattle.dbpl_code.specs.declared.global_entry.GlobalEntry.{GlobalEntry}
 use Rattle.dbpl_code.specs.declared.image.Image.{Image}
@@ -18,6 +18,8 @@ use Rattle.dbpl_value.specs.Values.{is_of}
 use Rattle.dbpl_value.specs.declared.bound.Bound.{Bound}
 use Rattle.dbpl_value.specs.declared.db_type.DbType.{DbType}
 use Rattle.dbpl_value.specs.declared.value.Value.{Value}
+use Rattle.dbpl_code.specs.Kinds.{Composed, ElementOf, Jumping, Kind, Leads, RefTo, Whole}
+use Rattle.dbpl_value.specs.declared.value.Value.TheVariants as value
 
 -- ---- references
 -- The slots of a frame are those of its routine, the frames stand outermost first.
@@ -111,3 +113,47 @@ pub record IsTypedSession (image : Image) (shapes : List (List Slot)) (session :
   pub frames : FramesAre image [] shapes session.store.frames
   pub database : Suits image session.store.database
   pub saved : SuitsIfSaved image session.saved
+
+-- ---- the stack
+
+-- a value is a number
+abbrev pub IsNumber : Value → Type 0
+IsNumber v = (n : ℤ) × (v ≡ value.Num n)
+
+-- an operand is of a kind
+abbrev pub OperandIs : Image → List (List Slot) → Kind → Operand → Type 0
+OperandIs image shapes Whole (Given v) = IsNumber v
+OperandIs image shapes (Composed t) (Given v) = is_of t v ≡ true
+OperandIs image shapes (RefTo t) (Refers reference) = reference_place image shapes reference ≡ Some (Of t)
+OperandIs image shapes (ElementOf t) (Refers reference) = reference_place image shapes reference ≡ Some (Within t)
+OperandIs image shapes _ _ = ⊥
+
+-- What of a stack is a routine's own has these kinds, and the rest is below.
+abbrev pub StackIs : Image → List (List Slot) → List Kind → List Operand → List Operand → Type 0
+StackIs image shapes [] stack rest = stack ≡ rest
+StackIs image shapes (kind ∷ kinds) [] rest = ⊥
+StackIs image shapes (kind ∷ kinds) (operand ∷ stack) rest =
+    OperandIs image shapes kind operand × StackIs image shapes kinds stack rest
+
+-- A line goes on, or jumps, with a stack with which it leads there.
+abbrev pub GoesOnWith : Image → List (List Slot) → ℕ → Option (List Kind) → Config → List Operand → Type 0
+GoesOnWith image shapes next None c rest = ⊥
+GoesOnWith image shapes next (Some kinds) c rest = (c.at ≡ next) × StackIs image shapes kinds c.stack rest
+
+abbrev pub JumpsWith : Image → List (List Slot) → Option Jumping → Config → List Operand → Type 0
+JumpsWith image shapes None c rest = ⊥
+JumpsWith image shapes (Some jump) c rest =
+    (c.at ≡ jump.address) × StackIs image shapes jump.kinds c.stack rest
+
+-- A machine that a line of a routine leads to: it stays in the routine, with a typed session, where the line may lead.
+pub record StaysIn (image : Image) (shapes : List (List Slot)) (from : Config) (rest : List Operand) (leads : Leads) (c : Config) : Type 0 where
+  pub routine : c.routine ≡ from.routine
+  pub callers : c.callers ≡ from.callers
+  pub session : IsTypedSession image shapes c.session
+  pub goes : GoesOnWith image shapes (from.at + 1) leads.on c rest ⊎ JumpsWith image shapes leads.jump c rest
+
+-- THE machines to which a line other than a call or a return may lead
+abbrev pub LeadsTo : Image → List (List Slot) → Config → List Operand → Leads → Machine → Type 0
+LeadsTo image shapes from rest leads (Running c) = StaysIn image shapes from rest leads c
+LeadsTo image shapes from rest leads (Over ending session) = Unit {0}
+LeadsTo image shapes from rest leads (Stuck session) = ⊥
