@@ -9,5 +9,6 @@ pub mod Put
 pub mod PutLed
 pub mod RelationExamples
 pub mod Steps
+pub mod TypedNumbers
 pub mod TypingExamples
 pub mod ValueExamples
