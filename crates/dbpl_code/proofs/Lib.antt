@@ -9,6 +9,7 @@ pub mod Put
 pub mod PutLed
 pub mod RelationExamples
 pub mod Steps
+pub mod TypedMemory
 pub mod TypedNumbers
 pub mod TypingExamples
 pub mod ValueExamples

@@ -1,17 +1,15 @@
 -- Rows of numbers, of jumps and of bytes in typed code: none is stuck, and each goes on or jumps as the typing says.
-use Rattle.std.proofs.Common.{◌≡◌, ◌+◌, ℕ, ℤ, pos, nat_abs, int_le, Bool, true, false, if◌then◌else◌, List, [], ◌∷◌, Option, Some, None, refl, ap, sym, subst, ◌∙◌, inl, inr}
-use Rattle.std.specs.Ordering.{int_cmp}
+use Rattle.std.proofs.Common.{◌≡◌, ℕ, ℤ, pos, int_le, Bool, true, false, if◌then◌else◌, List, [], ◌∷◌, Option, Some, None, refl, ap, sym, subst, ◌∙◌, inl, inr}
 use Rattle.dbpl_base.specs.declared.place.Place.{Place}
-use Rattle.dbpl_code.specs.Jumps.{jump_row, jump_zero_row}
-use Rattle.dbpl_code.specs.Kinds.{Composed, ElementOf, Jumping, Kind, Leads, RefTo, Whole, leads_on, leads_on_or_to, leads_to, with_whole}
-use Rattle.dbpl_code.specs.Numbers.{const_row, cmp_row, exact_row, quotient_row, within_row}
-use Rattle.dbpl_code.specs.Running.{Config, Given, Machine, Operand, Over, Refers, Running, Stuck, goes_on, goes_to, number_operand, on_number, on_number_level, on_value, trapped}
-use Rattle.dbpl_code.specs.TypedRuns.{GoesOnWith, IsNumber, IsTypedSession, JumpsWith, LeadsTo, OperandIs, StackIs, StaysIn}
+use Rattle.dbpl_code.specs.Jumps.{jump_zero_row}
+use Rattle.dbpl_code.specs.Kinds.{Composed, ElementOf, Kind, Leads, RefTo, Whole, leads_on, leads_on_or_to, with_whole}
+use Rattle.dbpl_code.specs.Numbers.{const_row, exact_row, quotient_row, within_row}
+use Rattle.dbpl_code.specs.Running.{Config, Given, Machine, Operand, Refers, goes_on, goes_to, number_operand, on_number, on_number_level, on_value, trapped}
+use Rattle.dbpl_code.specs.TypedRuns.{IsNumber, IsTypedSession, LeadsTo, StackIs}
 use Rattle.dbpl_code.specs.Typing.{of_two_numbers}
 use Rattle.dbpl_code.specs.declared.image.Image.{Image}
 use Rattle.dbpl_code.specs.declared.slot.Slot.{Slot}
-use Rattle.dbpl_core.specs.declared.relation.Relation.{Relation}
-use Rattle.dbpl_meaning.specs.Numbers.{is_related, number_of_bool, wide}
+use Rattle.dbpl_meaning.specs.Numbers.{wide}
 use Rattle.dbpl_meaning.specs.Words.{is_zero}
 use Rattle.dbpl_value.specs.Types.{is_in}
 use Rattle.dbpl_value.specs.declared.range.Range.{Range}
@@ -20,7 +18,7 @@ use Rattle.dbpl_value.specs.declared.value.Value.TheOpen as values
 use Rattle.dbpl_value.specs.declared.value.Value.TheVariants as value
 
 module _ (image : Image) (shapes : List (List Slot)) (c : Config) (rest : List Operand)
-         (typed : IsTypedSession image shapes c.session) where
+    (typed : IsTypedSession image shapes c.session) where
   abbrev pub Fine : Leads → Machine → Type 0
   Fine leads machine = LeadsTo image shapes c rest leads machine
 

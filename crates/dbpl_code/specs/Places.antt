@@ -1,5 +1,5 @@
--- What a typed reference leads to: the kind of a place, one step of a path after another. It asks for no value, so it stays as
--- it is whatever is put where.
+-- What a typed reference leads to: the kind of a place, one step of a path after another. It asks for no value, so it
+-- stays as it is whatever is put where.
 use Rattle.std.specs.Prelude.{◌≡◌, Bool, true, not, ◌&&◌, nat_eq, nat_lt, if◌then◌else◌, List, [], ◌∷◌, length, slice_get, Option, Some, None, option_and_then, Result, Ok, Err}
 use Rattle.dbpl_code.specs.Kinds.{ElementOf, Kind, RefTo}
 use Rattle.dbpl_code.specs.Typing.{array_element, is_key_name}

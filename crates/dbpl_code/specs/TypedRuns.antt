@@ -146,7 +146,8 @@ JumpsWith image shapes (Some jump) c rest =
     (c.at ≡ jump.address) × StackIs image shapes jump.kinds c.stack rest
 
 -- A machine that a line of a routine leads to: it stays in the routine, with a typed session, where the line may lead.
-pub record StaysIn (image : Image) (shapes : List (List Slot)) (from : Config) (rest : List Operand) (leads : Leads) (c : Config) : Type 0 where
+pub record StaysIn (image : Image) (shapes : List (List Slot)) (from : Config) (rest : List Operand) (leads : Leads)
+    (c : Config) : Type 0 where
   pub routine : c.routine ≡ from.routine
   pub callers : c.callers ≡ from.callers
   pub session : IsTypedSession image shapes c.session
