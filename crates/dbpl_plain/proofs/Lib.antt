@@ -1,0 +1,9 @@
+pub mod Characters
+pub mod CountLaw
+pub mod Labels
+pub mod Rising
+pub mod StateLaw
+pub mod Stepping
+pub mod StopLaw
+pub mod Telling
+pub mod Typing

@@ -1,0 +1,9 @@
+pub mod Counting
+pub mod Given
+pub mod Leaving
+pub mod Parts
+pub mod Printing
+pub mod Reckoning
+pub mod Stepping
+pub mod Telling
+pub mod Whole
