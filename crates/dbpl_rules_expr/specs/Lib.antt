@@ -1,6 +1,7 @@
 pub mod Aggregates
 pub mod Calls
 pub mod Checked
+pub mod Constants
 pub mod Designators
 pub mod Exact
 pub mod Expressions

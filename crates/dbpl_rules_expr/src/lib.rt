@@ -3,6 +3,7 @@
 
 mod aggregates;
 mod check;
+mod constants;
 mod designators;
 mod expressions;
 mod laws;
@@ -19,6 +20,7 @@ mod tests;
 mod variables;
 
 pub use check::{answered, check_expr};
+pub use constants::{constant_of, is_constant};
 pub use expressions::judge_expr as expr;
 pub use laws::{exact_expressions, judged_by_levels};
 pub use reached::Reached;
