@@ -1,7 +1,5 @@
 -- The measures of a type of each kind, by those of the types that stand in it, each cut off at what its width holds.
-use Rattle.std.proofs.Common.{◌≡◌, ℕ, ◌+◌, ◌-◌, ◌*◌, ◌^◌, ◌≤◌, min, max, ◌⊎◌, inl, inr, ℤ, Bool, true, false, ◌↔◌, IsTrue, List, [], ◌∷◌, ◌++◌, length, map, refl, sym, ap, ◌∙◌, arith, rules}
-use Rattle.std.proofs.lemmas.List.{map-append}
-use Rattle.std.proofs.lemmas.List.Sums.{fold-append, sum_by-append, sum_by-cons}
+use Rattle.std.proofs.Common.{◌≡◌, ℕ, ◌+◌, ◌-◌, ◌*◌, ◌^◌, min, max, ◌⊎◌, inl, inr, ℤ, Bool, true, false, ◌↔◌, IsTrue, List, [], length, map, refl, sym, ap, ◌∙◌, arith, rules}
 use Rattle.std.specs.List.{sum_by}
 use Rattle.std.specs.Prelude.{if◌then◌else◌}
 use Rattle.dbpl_judging.proofs.NodeLaws.{nodes_of_rec}
@@ -20,7 +18,7 @@ use Rattle.dbpl_value.specs.declared.field.Field.{Field}
 abbrev measures_at : DbType-F DbType Field → Measures
 measures_at level = record {
   scalars = within_bits 64
-  (scalars_level (map-DbType DbType Field (DbType × ℕ) (Field × ℕ) (λ part. (part, scalars_of part)) (λ field. (field, scalars_of field.kind)) level));
+      (scalars_level (map-DbType DbType Field (DbType × ℕ) (Field × ℕ) (λ part. (part, scalars_of part)) (λ field. (field, scalars_of field.kind)) level));
   depth = within_bits 32 (depth_level (map-DbType DbType Field ℕ ℕ depth_of (λ field. depth_of field.kind) level));
   relations = within_bits 32 (relations_level (map-DbType DbType Field ℕ ℕ relations_of (λ field. relations_of field.kind) level));
   nodes = within_bits 32 (nodes_level (map-DbType DbType Field ℕ ℕ nodes_of (λ field. nodes_of field.kind) level));

@@ -1,20 +1,17 @@
 -- THE law of a level: the judgement of a type is one level of it, over the judgements of the types in it. And each form of type by
 -- what its parts are judged as.
-use Rattle.std.proofs.Common.{◌≡◌, List, [], ◌∷◌, ◌++◌, Option, Some, None, map, option_map, refl, ap, ◌∙◌}
+use Rattle.std.proofs.Common.{◌≡◌, List, [], ◌∷◌, ◌++◌, map, refl, ap, ◌∙◌}
 use Rattle.std.specs.List.{flat_map}
-use Rattle.dbpl_base.specs.declared.place.Place.{Place}
 use Rattle.dbpl_judging.specs.Stages.{Staged, both_staged, each_staged, leaving, made_staged}
 use Rattle.dbpl_judging.specs.declared.setting.Setting.{Setting}
-use Rattle.dbpl_rules_type.specs.Arrays.{array_kind, array_type, index_type}
+use Rattle.dbpl_rules_type.specs.Arrays.{array_kind, index_type}
 use Rattle.dbpl_rules_type.specs.NewNames.{different}
-use Rattle.dbpl_rules_type.specs.Records.{SameFields, field_names, record_kind, record_type, same_fields}
+use Rattle.dbpl_rules_type.specs.Records.{SameFields, field_names, record_kind, same_fields}
 use Rattle.dbpl_rules_type.specs.Types.{Phrase, judge_written, phrase_of, phrase_step, phrases, type_phrase, written_types}
-use Rattle.dbpl_rules_type.specs.Written.{Written, followed}
+use Rattle.dbpl_rules_type.specs.Written.{followed}
 use Rattle.dbpl_tree.proofs.Folds.{type-out}
 use Rattle.dbpl_tree.specs.FirstTokens.{type_level_place, type_place}
 use Rattle.dbpl_tree.specs.Maps.{fields_with, type_with}
-use Rattle.dbpl_tree.specs.declared.expr.ExprOf.{ExprOf}
-use Rattle.dbpl_tree.specs.declared.factor.Factor.{Factor}
 use Rattle.dbpl_tree.specs.declared.ident.Ident.{Ident}
 use Rattle.dbpl_tree.specs.declared.type_tree.FieldsOf.{FieldsOf}
 use Rattle.dbpl_tree.specs.declared.type_tree.FieldsOf.TheVariants as sections

@@ -1,5 +1,5 @@
 -- What types are made of: arrays from their last index type on, and enumerations with their constants.
-use Rattle.std.proofs.Common.{◌≡◌, ℕ, Bool, true, false, List, [], ◌∷◌, ◌++◌, Option, Some, None, option_map, Result, Ok, refl, sym, ap, ◌∙◌, subst}
+use Rattle.std.proofs.Common.{◌≡◌, ℕ, Bool, List, [], ◌∷◌, ◌++◌, Option, Some, None, option_map, Result, Ok, refl, ap, ◌∙◌, subst}
 use Rattle.std.proofs.lemmas.List.Elements.{All-cons, All-head, All-nil, All-tail}
 use Rattle.std.specs.List.{All}
 use Rattle.std.specs.Prelude.{is_some, if◌then◌else◌}
@@ -9,7 +9,7 @@ use Rattle.dbpl_judging.specs.Stages.{Stages, each_staged_at}
 use Rattle.dbpl_rules_type.specs.Arrays.{array_of}
 use Rattle.dbpl_rules_type.specs.Asking.{AsksStaged}
 use Rattle.dbpl_rules_type.specs.Enumerations.{enumerated, enumeration, names_in}
-use Rattle.dbpl_rules_type.specs.Measures.{IsMeasured, kinds_of}
+use Rattle.dbpl_rules_type.specs.Measures.{kinds_of}
 use Rattle.dbpl_rules_type.specs.NewNames.{idents_in}
 use Rattle.dbpl_rules_type.specs.declared.measured.Measured.{Measured}
 use Rattle.dbpl_tree.specs.declared.ident.Idents.{Idents}

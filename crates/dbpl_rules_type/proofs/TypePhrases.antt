@@ -1,6 +1,6 @@
 -- THE laws of the phrases of types, by which the functions that judge them meet their contracts: each takes the contracts of the
 -- calls for the parts, one after the other.
-use Rattle.std.proofs.Common.{◌≡◌, ℕ, ◌+◌, ◌<◌, Bool, true, false, ◌&&◌, List, [], ◌∷◌, ◌++◌, length, take, get_or, map, Option, Some, None, option_map, Result, Ok, Err, IsOkAnd, refl, sym, ap, ◌∙◌, subst, append_assoc, append-nil}
+use Rattle.std.proofs.Common.{◌≡◌, ℕ, ◌+◌, ◌<◌, Bool, true, false, ◌&&◌, List, [], ◌∷◌, ◌++◌, length, take, get_or, Option, Some, None, option_map, Result, Ok, Err, IsOkAnd, refl, sym, ap, ◌∙◌, subst, append_assoc, append-nil}
 use Rattle.std.proofs.lemmas.Grind.{flat_map-append}
 use Rattle.std.proofs.lemmas.List.{map-append}
 use Rattle.std.proofs.lemmas.List.Elements.{All-cons, All-nil}
@@ -17,11 +17,11 @@ use Rattle.dbpl_judging.specs.Stages.{Staged, Stages, after, both_staged, each_s
 use Rattle.dbpl_judging.specs.declared.setting.Setting.{Setting}
 use Rattle.dbpl_rules_type.proofs.Shown.{Sight, one_more_shown}
 use Rattle.dbpl_rules_type.proofs.TypeLevels.{judge_written-out}
-use Rattle.dbpl_rules_type.specs.Arrays.{array_kind, array_of, index_kind, index_type}
+use Rattle.dbpl_rules_type.specs.Arrays.{array_kind, array_of, index_kind}
 use Rattle.dbpl_rules_type.specs.Asking.{Asks}
 use Rattle.dbpl_rules_type.specs.Enumerations.{enumeration}
 use Rattle.dbpl_rules_type.specs.Listing.{appended}
-use Rattle.dbpl_rules_type.specs.Measures.{AreGathered, IsMeasured, array_measured, gathered, gathered_behind, gathered_two, gathered_with, index_measured, kinds_of, measured, measured_as, measures_of_fields, record_measured, small_as, small_kinds, usable_of, with_fields}
+use Rattle.dbpl_rules_type.specs.Measures.{AreGathered, IsMeasured, array_measured, gathered, gathered_behind, gathered_with, index_measured, kinds_of, measured, measured_as, measures_of_fields, record_measured, small_as, small_kinds, usable_of}
 use Rattle.dbpl_rules_type.specs.NamedTypes.{named_type}
 use Rattle.dbpl_rules_type.specs.NewNames.{different, idents_in}
 use Rattle.dbpl_rules_type.specs.Records.{SameFields, field_names, fields_named, no_fields, record_kind, same_fields}
@@ -35,7 +35,6 @@ use Rattle.dbpl_rules_type.specs.declared.measured.Measured.{Measured}
 use Rattle.dbpl_tree.specs.declared.expr.ExprOf.{ExprOf}
 use Rattle.dbpl_tree.specs.declared.factor.Factor.{Factor}
 use Rattle.dbpl_tree.specs.FirstTokens.{type_place}
-use Rattle.dbpl_tree.specs.declared.ident.Ident.{Ident}
 use Rattle.dbpl_tree.specs.declared.ident.Idents.{Idents}
 use Rattle.dbpl_tree.specs.declared.ident.Qual.{Qual}
 use Rattle.dbpl_tree.specs.declared.type_tree.FieldsOf.{FieldsOf}
@@ -44,7 +43,6 @@ use Rattle.dbpl_tree.specs.declared.type_tree.TypeTree.{TypeTree, out-TypeTree}
 use Rattle.dbpl_tree.specs.declared.type_tree.TypeTree.TheOpen as forms
 use Rattle.dbpl_tree.specs.declared.type_tree.TypeTree.TheVariants as trees
 use Rattle.dbpl_value.specs.declared.db_type.DbType.{DbType}
-use Rattle.dbpl_value.specs.declared.db_type.DbType.TheVariants as types
 use Rattle.dbpl_value.specs.declared.field.Field.{Field}
 
 -- ---- types without types in them

@@ -1,5 +1,5 @@
 -- The constants that a type writes out, one level of it: they are those of the types in it.
-use Rattle.std.proofs.Common.{◌≡◌, List, [], ◌∷◌, ◌++◌, map, refl, ap, ◌∙◌}
+use Rattle.std.proofs.Common.{◌≡◌, List, [], ◌∷◌, ◌++◌, map, refl, ◌∙◌}
 use Rattle.std.specs.List.{flat_map}
 use Rattle.dbpl_base.specs.declared.place.Place.{Place}
 use Rattle.dbpl_rules_type.specs.WrittenConstants.{constants_in, constants_in_fields, constants_level}

@@ -80,7 +80,13 @@ fn declared_constants(
     ensures { AsksStaged (each_staged_at (judged_constant t.now) 0 (idents_in names.now) checker.old.setting) result checker.old checker.new }
 {
     let owned = checker.copy_type(alloc, t)?;
-    constants(alloc, checker, &owned, &names.first, names.others.as_slice())
+    constants(
+        alloc,
+        checker,
+        &owned,
+        &names.first,
+        names.others.as_slice(),
+    )
 }
 
 /// An enumeration, which declares its constants behind it.

@@ -125,7 +125,10 @@ pub(crate) fn of_relation(keys: usize, element: Measures) -> Measures
         scalars: 1,
         depth: element.depth.saturating_add(1),
         relations: element.relations.saturating_add(1),
-        nodes: element.nodes.saturating_add(cut_off(keys)).saturating_add(1),
+        nodes: element
+            .nodes
+            .saturating_add(cut_off(keys))
+            .saturating_add(1),
     }
 }
 

@@ -21,12 +21,7 @@ pub(crate) fn new_in(checker: &mut Checker, x: &Ident) -> bool
 }
 
 /// A name of a list, which stands in the level of the list from now on, as one that is unknown.
-fn listed_name(
-    alloc: Global,
-    checker: &mut Checker,
-    rule: u16,
-    x: &Ident,
-) -> Result<bool, Memory>
+fn listed_name(alloc: Global, checker: &mut Checker, rule: u16, x: &Ident) -> Result<bool, Memory>
     ensures { AsksStaged (judged_listed rule x.now checker.old.setting) result checker.old checker.new }
 {
     let is_new = !checker.setting().scope.has(&x.name);

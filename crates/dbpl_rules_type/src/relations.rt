@@ -12,14 +12,14 @@ ghost use Rattle.dbpl_rules_type.specs.Rules.{S19 as is_record_type};
 ghost use Rattle.dbpl_symbols.specs.Scopes.{with_pairs};
 ghost use Rattle.dbpl_value.specs.declared.db_type.DbType.TheVariants as types;
 
-use crate::lists::part_where;
-use crate::{Measured, Measures};
 use crate::asking::both_hold;
 use crate::enumerations::copied_names;
+use crate::lists::part_where;
 use crate::measuring::{copied, of_relation};
 use crate::names::different;
 use crate::sizing::{keeps_relations, sized};
 use crate::type_names::named_type;
+use crate::{Measured, Measures};
 use dbpl_base::{Boxed, Memory, Place, Shared};
 use dbpl_judging::{Checker, pair};
 use dbpl_symbols::{Decl, Origin};

@@ -9,5 +9,5 @@ abbrev pub invariant-loop-x : goal.invariant-loop-x
 invariant-loop-x l = record {
   number : l.number ≡ l.x-index;
   asked : AsksStaged (each_staged_at (enumerated l.t) 0 (l.first ∷ take l.x-index l.others) l.fn.checker.setting) (Ok l.hold)
-  l.fn.checker l.checker;
+      l.fn.checker l.checker;
 }

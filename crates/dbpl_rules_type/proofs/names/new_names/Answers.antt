@@ -1,7 +1,5 @@
 use Rattle.std.proofs.Common.{◌∷◌}
-use Rattle.dbpl_judging.specs.Judgements.{Judged}
 use Rattle.dbpl_judging.specs.Stages.{in_level, under}
-use Rattle.dbpl_judging.specs.declared.setting.Setting.{Setting}
 use Rattle.dbpl_rules_type.proofs.Asked.{both_asked, level_asked, names_and_constants_adds}
 use Rattle.dbpl_rules_type.proofs.names.new_names.Goals as goal
 use Rattle.dbpl_rules_type.specs.NewNames.{names_and_constants, names_free}

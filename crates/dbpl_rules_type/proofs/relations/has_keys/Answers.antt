@@ -1,4 +1,4 @@
-use Rattle.std.proofs.Common.{sym, ap, subst, ◌∙◌}
+use Rattle.std.proofs.Common.{ap, subst, ◌∙◌}
 use Rattle.dbpl_judging.specs.Checking.{noting}
 use Rattle.dbpl_judging.specs.Judgements.{asks}
 use Rattle.dbpl_rules_type.proofs.KeyLaws.{asked_next}
