@@ -16,7 +16,7 @@ use Rattle.dbpl_promise.specs.Promises.{Answered, LeavesAlone}
 use Rattle.dbpl_promise.specs.Refusals.{is_refusal}
 use Rattle.dbpl_promise.specs.Running.{EndsRun, SomeWereMade, MayRun, RunsNothing, ended, running}
 use Rattle.dbpl_promise.specs.Runs.{WereMade, IsTied, IsWhole, Leaves, Run}
-use Rattle.dbpl_promise.specs.Stages.{IsDue, ◌>>=◌}
+use Rattle.dbpl_promise.specs.Stages.{MayAnswer, ◌>>=◌}
 use Rattle.dbpl_promise.specs.Work.{Work}
 use Rattle.dbpl_world.proofs.Moments.{moments_weaken}
 use Rattle.dbpl_world.proofs.Replays.{now-more, replay-said}
@@ -123,8 +123,7 @@ module _ (text : List ℕ) (work : Work) (answer : Status) (program : Program) (
     settled = λ told refuses name mounts. absurd (text_mounts text work name mounts);
   }
 
-  printing : (IsTrue (is_refusal answer) → ⊥) →
-      IsDue (runs_text text >>= ended) work answer ⊎ ((runs_text text >>= ended).fails work answer ⊎ (answer ≡ status.Memory)) →
+  printing : (IsTrue (is_refusal answer) → ⊥) → MayAnswer (runs_text text >>= ended) work answer →
       ((s : State) → s ≡ record (now work.before) { said = (now work.before).said ++ said } → HasEnded s) →
       (answer ≡ status.OutFault) ⊎ (work.counts_after.say_faults ≡ work.counts_before.say_faults) →
       work.counts_after.disk_faults ≡ work.counts_before.disk_faults → work.shelf_faults_after ≡ work.shelf_faults_before →

@@ -1,5 +1,5 @@
 -- What the stages of a run of one file do.
-use Rattle.std.proofs.Common.{◌≡◌, ℕ, List, [], None, inl, inr, refl, subst, sym}
+use Rattle.std.proofs.Common.{◌≡◌, ℕ, Bool, IsTrue, List, [], None, Option, Some, ap, inl, inr, refl, subst, sym}
 use Rattle.dbpl_alone.proofs.MeaningLaws.{module_steady}
 use Rattle.dbpl_alone.proofs.ModuleLaw.{module_or_refusal, one_module, one_refusal}
 use Rattle.dbpl_alone.specs.Answers.{IsNotRead}
@@ -14,8 +14,11 @@ use Rattle.dbpl_core.specs.Outcomes.{IsSteady}
 use Rattle.dbpl_promise.proofs.Determined.{given, joined}
 use Rattle.dbpl_promise.proofs.InFront.{in_front}
 use Rattle.dbpl_promise.proofs.AnswerKinds.{HasKinds, Refusal, kind_of, kinds_given, kinds_joined}
+use Rattle.dbpl_promise.proofs.Rows.{BeginsAs, IsRow, at_beginning, running_row}
 use Rattle.dbpl_promise.proofs.Stages.{running_determined}
-use Rattle.dbpl_promise.proofs.Stopped.{IsStill, stopped, stops_in_front}
+use Rattle.dbpl_promise.proofs.Still.{IsStill}
+use Rattle.dbpl_promise.proofs.Stopped.{stopped, stops_in_front}
+use Rattle.dbpl_promise.specs.Opening.{StandsAs, store_before}
 use Rattle.dbpl_promise.specs.Promises.{Answered}
 use Rattle.dbpl_promise.specs.Running.{running}
 use Rattle.dbpl_promise.specs.Runs.{Run}
@@ -23,6 +26,8 @@ use Rattle.dbpl_promise.specs.Stages.{IsDetermined, Stage, Stops, gives, ◌>>=�
 use Rattle.dbpl_promise.specs.Work.{IsTold, Work}
 use Rattle.dbpl_sources.proofs.Fetched.{fetched_determined, fetched_kinds}
 use Rattle.dbpl_sources.specs.Fetching.{fetched}
+use Rattle.dbpl_world.specs.Files.{Files}
+use Rattle.dbpl_world.specs.History.{History}
 
 -- the run of a module
 abbrev pub run_of : Program → Run
@@ -78,7 +83,7 @@ text_mounts text work name (inr behind) = behind.2
 
 -- ---- the whole
 
-pub alone_kinds : (file : List ℕ) → HasKinds (runs_alone file)
+alone_kinds : (file : List ℕ) → HasKinds (runs_alone file)
 alone_kinds file = kinds_joined (fetched file) runs_text (fetched_kinds file) text_kinds
 
 pub alone_determined : (file : List ℕ) (work : Work) → IsTold work → IsDetermined (running (runs_alone file)).due work
@@ -90,6 +95,24 @@ alone_determined file work told =
     steady : (run : Run) → (runs_alone file).passes work run → (input : List ℕ) → IsSteady (run.means input)
     steady run (text, has, (program, is, same)) input =
         subst (λ (r : Run). IsSteady (r.means input)) (sym same) (module_steady program input)
+
+pub alone_row : (file : List ℕ) → IsRow (running (runs_alone file))
+alone_row file =
+    running_row (runs_alone file) (alone_kinds file) (alone_determined file) (record { rests = rests; reads = reads })
+  where
+    rests : (work other : Work) (run : Run) → BeginsAs work other → (runs_alone file).passes work run →
+        (runs_alone file).passes other run
+    rests work other run =
+        at_beginning
+        (λ (files : Option Files) (tells : Bool) (before : History).
+        (runs_alone file).passes (record other { files = files; tells = tells; before = before }) run)
+        work other
+
+    -- it is over no store
+    reads : (work : Work) (run : Run) (store : List ℕ) → IsTrue work.tells → (runs_alone file).passes work run →
+        run.store ≡ Some store → StandsAs run.database (store_before store work)
+    reads work run store tells (text, has, (program, is, same)) over =
+        absurd (cc (ap (λ (r : Run). r.store) same, over))
 
 -- ---- a run that stopped with nothing done, or behind a text that was fetched
 

@@ -1,5 +1,5 @@
 -- An answer tells of an end, or it refuses, or it tells of a fault or want of memory. No command answers bad words.
-use Rattle.std.proofs.Common.{◌≡◌, inl, inr, refl, true}
+use Rattle.std.proofs.Common.{◌≡◌, ap, inl, inr, refl, true}
 use Rattle.dbpl_base.specs.declared.status.Status.{Status}
 use Rattle.dbpl_base.specs.declared.status.Status.TheVariants as status
 use Rattle.dbpl_core.specs.Outcomes.{TellsOfEnd}
@@ -51,6 +51,17 @@ module _ {A B : Type 0} (stage : Stage A) (next : A → Stage B) (first : HasKin
 
   pub kinds_joined : HasKinds (stage >>= next)
   kinds_joined = record { refuses = refuses; fails = fails }
+
+-- What a stage passes with is an answer that tells of an end.
+abbrev pub Concludes : Stage Status → Type 0
+Concludes stage = (work : Work) (answer : Status) → stage.passes work answer → kind_of answer ≡ End
+
+pub concludes_done : Concludes (gives status.Done)
+concludes_done work answer is = ap kind_of is
+
+pub concludes_joined : {A : Type 0} (stage : Stage A) (next : A → Stage Status) → ((a : A) → Concludes (next a)) →
+    Concludes (stage >>= next)
+concludes_joined stage next then work answer passes = then passes.0 work answer passes.2
 
 -- what refuses is a refusal
 pub refusal_kind : (answer : Status) → kind_of answer ≡ Refusal → is_refusal answer ≡ true

@@ -1,5 +1,5 @@
 -- Some answer is due in each stage: it passes with something, or some answer refuses.
-use Rattle.std.proofs.Common.{◌≡◌, ◌⊎◌, ℕ, List, [], ◌∷◌, Bool, None, Option, Some, bytes_eq, false, inl, inr, refl, sym, take, true, ◌∙◌}
+use Rattle.std.proofs.Common.{◌≡◌, ◌⊎◌, ℕ, List, [], ◌∷◌, Bool, None, Option, Some, bytes_eq, false, inl, inr, refl, sym, take, true}
 use Rattle.std.proofs.lemmas.Bool.{true≢false}
 use Rattle.std.proofs.lemmas.Slice.Eq.{bytes_eq-Decides}
 use Rattle.std.specs.Bool.{Decides}

@@ -2,10 +2,9 @@
 use Rattle.std.proofs.Common.{◌≡◌, ◌∙◌, ◌++◌, ℕ, List, [], ◌∷◌, None, Option, Some, ap, map, subst, sym}
 use Rattle.dbpl_base.specs.declared.status.Status.{Status}
 use Rattle.dbpl_core.specs.Outcomes.{TellsOfEnd}
-use Rattle.dbpl_promise.specs.Promises.{Answered}
-use Rattle.dbpl_promise.specs.Running.{MayRun, running}
+use Rattle.dbpl_promise.proofs.Rows.{IsRow}
+use Rattle.dbpl_promise.specs.Promises.{Answered, Promise}
 use Rattle.dbpl_promise.specs.Runs.{IsTied, IsTiedThroughout, IsWhole, IsWholeFromThen, Leaves, Left, Run, StoodFor}
-use Rattle.dbpl_promise.specs.Stages.{Stage}
 use Rattle.dbpl_promise.specs.Work.{IsTold, Work}
 use Rattle.dbpl_store.specs.Stands.{stands}
 use Rattle.dbpl_value.specs.declared.bound.Bound.{Bound}
@@ -61,20 +60,21 @@ left_each None P old new run found said left =
     subst (λ (f : Option (List Bound)). P f said) (sym left.3)
     (subst (λ (bytes : List ℕ). P (Some []) bytes) (sym left.4) holds)
 
-module _ (stage : Stage Run) (work : Work) (answer : Status) (did : Answered (running stage) work answer) (told : IsTold work)
-    (run : Run) (passes : stage.passes work run) (after : History) (counts : Counts) (bytes : List ℕ)
+module _ (promise : Promise) (row : IsRow promise) (work : Work) (answer : Status)
+    (did : Answered promise work answer) (told : IsTold work) (run : Run)
+    (runs : promise.runs work run) (after : History) (counts : Counts) (bytes : List ℕ)
     (behind : after ≡ more work.after (map Noted bytes)) where
   pub headline : StoodFor run (now work.before) → IsTiedThroughout run (record work { after = after; counts_after = counts })
   headline stood =
       left_each run.store (IsTied run (now work.before)) work.before after
       (noted_on (Leaves run.store (IsTied run (now work.before))) (leaves_noted run.store (IsTied run (now work.before)))
       work.before work.after after bytes
-      (moments_weaken (MayRun stage work answer) (Leaves run.store (IsTied run (now work.before))) work.before work.after
-      (λ s may. may.tied told run passes stood) (did.moments told.world)) behind)
+      (moments_weaken (promise.may work answer) (Leaves run.store (IsTied run (now work.before))) work.before work.after
+      (λ s may. row.tied work answer s run told runs stood may) (did.moments told.world)) behind)
 
   whole_there : TellsOfEnd answer →
       Leaves run.store (IsWhole run (now work.before) answer (now work.after).input) (now work.after)
-  whole_there ends = (did.end told.world).whole told run passes ends
+  whole_there ends = row.whole work answer (now work.after) run told runs ends (did.end told.world)
 
   whole_behind : TellsOfEnd answer → Leaves run.store (IsWhole run (now work.before) answer (now after).input) (now after)
   whole_behind ends =

@@ -1,17 +1,57 @@
 -- A command whose first stages were passed, and that then kept the promise of the others, kept the promise of all.
-use Rattle.std.proofs.Common.{◌≡◌, ◌⊎◌, ℕ, List, IsTrue, inl, inr, subst}
+use Rattle.std.proofs.Common.{◌⊎◌, ℕ, List, IsTrue, inl, inr, subst}
 use Rattle.dbpl_base.specs.declared.status.Status.{Status}
-use Rattle.dbpl_base.specs.declared.status.Status.TheVariants as status
 use Rattle.dbpl_promise.proofs.Leaving.{alone_more}
-use Rattle.dbpl_promise.specs.Promises.{Answered, LeavesAlone}
+use Rattle.dbpl_promise.specs.Promises.{Answered, LeavesAlone, Promise}
 use Rattle.dbpl_promise.specs.Refusals.{is_refusal}
-use Rattle.dbpl_promise.specs.Running.{EndsRun, MayRun, RunsNothing, ended, running}
+use Rattle.dbpl_promise.specs.Running.{EndsRun, MayRun, RunsNothing, ended, reading, running}
 use Rattle.dbpl_promise.specs.Runs.{Run}
-use Rattle.dbpl_promise.specs.Stages.{IsDetermined, IsDue, Stage, ◌>>=◌}
+use Rattle.dbpl_promise.specs.Stages.{IsDetermined, IsDue, MayAnswer, Stage, Stops, ◌>>=◌}
 use Rattle.dbpl_promise.specs.Work.{IsTold, Work}
 use Rattle.dbpl_world.proofs.Moments.{moments_weaken}
 use Rattle.dbpl_world.specs.History.{State, now}
 
+-- What one promise holds, another does that allows as much.
+module _ (from to : Promise) (work : Work) (answer : Status)
+    (answers : MayAnswer from.due work answer → MayAnswer to.due work answer)
+    (mounts : (name : List ℕ) → from.due.mounts work name → to.due.mounts work name)
+    (may : (s : State) → from.may work answer s → to.may work answer s)
+    (ends : (s : State) → from.ends work answer s → to.ends work answer s) where
+  pub carried : Answered from work answer → Answered to work answer
+  carried did = record {
+    answers = answers did.answers;
+    moments = λ tells.
+        moments_weaken (from.may work answer) (to.may work answer) work.before work.after may (did.moments tells);
+    end = λ tells. ends (now work.after) (did.end tells);
+    only = λ tells.
+        moments_weaken (LeavesAlone (from.due.mounts work) (now work.before))
+        (LeavesAlone (to.due.mounts work) (now work.before)) work.before work.after
+        (alone_more (from.due.mounts work) (to.due.mounts work) mounts (now work.before)) (did.only tells);
+    prints = did.prints;
+    disk = did.disk;
+    source = did.source;
+  }
+
+-- a stage, and the rest of those of a command
+module _ {A : Type 0} (stage : Stage A) (next : A → Stage Status) (work : Work) (answer : Status) where
+  pub answers_stop : Stops stage work answer → MayAnswer (stage >>= next) work answer
+  answers_stop (inl refuses) = inl (inl (inl refuses))
+  answers_stop (inr (inl fault)) = inr (inl (inl fault))
+  answers_stop (inr (inr memory)) = inr (inr memory)
+
+  module _ (a : A) (passes : stage.passes work a) where
+    pub answers_behind : MayAnswer (next a) work answer → MayAnswer (stage >>= next) work answer
+    answers_behind (inl (inl refuses)) = inl (inl (inr (a, passes, refuses)))
+    answers_behind (inl (inr then)) = inl (inr (a, passes, then))
+    answers_behind (inr (inl fault)) = inr (inl (inr (a, passes, fault)))
+    answers_behind (inr (inr memory)) = inr (inr memory)
+
+    pub reading_behind : Answered (reading (next a)) work answer → Answered (reading (stage >>= next)) work answer
+    reading_behind =
+        carried (reading (next a)) (reading (stage >>= next)) work answer answers_behind
+        (λ name here. inr (a, passes, here)) (λ s may. may) (λ s end. end)
+
+-- the stages of a run
 module _ {A : Type 0} (stage : Stage A) (next : A → Stage Run) (work : Work) (answer : Status) (a : A)
     (passes : stage.passes work a) (first : IsTold work → IsDetermined stage work)
     (unmounted : (name : List ℕ) → stage.mounts work name → ⊥) where
@@ -24,8 +64,7 @@ module _ {A : Type 0} (stage : Stage A) (next : A → Stage Run) (work : Work) (
   fails (inl before) = inl (inr (a, passes, before))
   fails (inr within) = inr (within.0, (a, passes, within.1), within.2)
 
-  answers : IsDue (next a >>= ended) work answer ⊎ ((next a >>= ended).fails work answer ⊎ (answer ≡ status.Memory)) →
-      IsDue ((stage >>= next) >>= ended) work answer ⊎ (((stage >>= next) >>= ended).fails work answer ⊎ (answer ≡ status.Memory))
+  answers : MayAnswer (next a >>= ended) work answer → MayAnswer ((stage >>= next) >>= ended) work answer
   answers (inl is) = inl (due is)
   answers (inr (inl fault)) = inr (inl (fails fault))
   answers (inr (inr memory)) = inr (inr memory)
@@ -67,18 +106,4 @@ module _ {A : Type 0} (stage : Stage A) (next : A → Stage Run) (work : Work) (
   }
 
   pub in_front : Answered (running (next a)) work answer → Answered (running (stage >>= next)) work answer
-  in_front did = record {
-    answers = answers did.answers;
-    moments = λ tells.
-        moments_weaken (MayRun (next a) work answer) (MayRun (stage >>= next) work answer) work.before work.after may
-        (did.moments tells);
-    end = λ tells. ends (now work.after) (did.end tells);
-    only = λ tells.
-        moments_weaken (LeavesAlone ((next a >>= ended).mounts work) (now work.before))
-        (LeavesAlone (((stage >>= next) >>= ended).mounts work) (now work.before)) work.before work.after
-        (alone_more ((next a >>= ended).mounts work) (((stage >>= next) >>= ended).mounts work) mounts (now work.before))
-        (did.only tells);
-    prints = did.prints;
-    disk = did.disk;
-    source = did.source;
-  }
+  in_front = carried (running (next a)) (running (stage >>= next)) work answer answers mounts may ends

@@ -5,7 +5,9 @@ pub mod Headline
 pub mod InFront
 pub mod Leaving
 pub mod Mounted
+pub mod Rows
 pub mod Stages
+pub mod Still
 pub mod Stopped
 pub mod Together
 pub mod Unasked

@@ -6,10 +6,10 @@ use Rattle.dbpl_core.specs.Outcomes.{Ended, Going, IsSteady, IsToldBy, Outcome, 
 use Rattle.dbpl_log.proofs.RecordLaws.{records_head}
 use Rattle.dbpl_log.specs.Records.{HasHead, records_of}
 use Rattle.dbpl_promise.proofs.Determined.{given, joined}
-use Rattle.dbpl_promise.proofs.AnswerKinds.{Fault, HasKinds, Refusal, kind_of, kinds_given, kinds_joined}
-use Rattle.dbpl_promise.specs.Faults.{disk_faults}
+use Rattle.dbpl_promise.proofs.AnswerKinds.{Concludes, End, Fault, HasKinds, Refusal, concludes_joined, kind_of, kinds_given, kinds_joined}
+use Rattle.dbpl_promise.specs.Faults.{disk_faults, out_faults}
 use Rattle.dbpl_promise.specs.Opening.{IsUnbound, IsUnnamed, IsUnopened, StandsAs, all_bound, bound, named, opened, store_before}
-use Rattle.dbpl_promise.specs.Running.{Ends, ended}
+use Rattle.dbpl_promise.specs.Running.{Ends, ended, run_faults}
 use Rattle.dbpl_promise.specs.Runs.{Run}
 use Rattle.dbpl_promise.specs.Stages.{IsDetermined, Stage, ◌>>=◌}
 use Rattle.dbpl_promise.specs.Work.{Work}
@@ -51,7 +51,7 @@ unopened_kind name work status.NotStore is = refl
 unopened_kind name work (status.Damaged page) is = refl
 unopened_kind name work _ is = absurd is
 
-disk_kind : (work : Work) (answer : Status) → disk_faults work answer → kind_of answer ≡ Fault
+pub disk_kind : (work : Work) (answer : Status) → disk_faults work answer → kind_of answer ≡ Fault
 disk_kind work status.DiskFault rose = refl
 disk_kind work _ rose = absurd rose
 
@@ -182,6 +182,32 @@ module _ (run : Run) (work : Work) (steady : (input : List ℕ) → IsSteady (ru
     refusal = λ answer other left. absurd left;
     apart = λ a answer passes refuses. refuses;
   }
+
+told_kind : (standing : Standing) (answer : Status) → IsToldBy standing answer → kind_of answer ≡ End
+told_kind Ended answer told = ap kind_of told
+told_kind (Trapped trap) answer told = ap kind_of told
+told_kind Going answer told = absurd told
+
+out_kind : (work : Work) (answer : Status) → out_faults work answer → kind_of answer ≡ Fault
+out_kind work status.OutFault rose = refl
+out_kind work _ rose = absurd rose
+
+run_kind : (store : Option (List ℕ)) (work : Work) (answer : Status) → run_faults store work answer →
+    kind_of answer ≡ Fault
+run_kind None work answer rose = out_kind work answer rose
+run_kind (Some name) work answer (inl rose) = out_kind work answer rose
+run_kind (Some name) work answer (inr rose) = disk_kind work answer rose
+
+ended_kinds : (run : Run) → HasKinds (ended run)
+ended_kinds run = record { refuses = λ work answer never. absurd never; fails = run_kind run.store }
+
+pub running_kinds : (stage : Stage Run) → HasKinds stage → HasKinds (stage >>= ended)
+running_kinds stage kinds = kinds_joined stage ended kinds ended_kinds
+
+pub running_concludes : (stage : Stage Run) → Concludes (stage >>= ended)
+running_concludes stage =
+    concludes_joined stage ended
+    (λ run work answer ends. told_kind (run.means ends.input ends.turns).stands answer ends.ends)
 
 pub running_determined : (stage : Stage Run) (work : Work) → IsDetermined stage work →
     ((run : Run) → stage.passes work run → (input : List ℕ) → IsSteady (run.means input)) → IsTrue work.tells →

@@ -1,25 +1,17 @@
 -- A command that stopped in its stages, with nothing done, kept its promise.
-use Rattle.std.proofs.Common.{◌≡◌, ◌⊎◌, ℕ, List, IsTrue, ap, inl, inr, refl, subst, sym}
+use Rattle.std.proofs.Common.{◌≡◌, ◌⊎◌, ℕ, List, ap, inl, inr, refl, subst}
 use Rattle.dbpl_base.specs.declared.status.Status.{Status}
 use Rattle.dbpl_base.specs.declared.status.Status.TheVariants as status
 use Rattle.dbpl_core.specs.Outcomes.{TellsOfEnd}
 use Rattle.dbpl_promise.proofs.AnswerKinds.{Fault, HasKinds, end_kind, kind_of}
-use Rattle.dbpl_promise.proofs.Leaving.{alone_here, some_here, tied_here, untouched_here}
-use Rattle.dbpl_promise.specs.Promises.{Answered, LeavesAlone}
-use Rattle.dbpl_promise.specs.Running.{EndsRun, SomeWereMade, MayRun, ended, running}
+use Rattle.dbpl_promise.proofs.Leaving.{some_here, tied_here, untouched_here}
+use Rattle.dbpl_promise.proofs.Still.{IsStill, kept_still}
+use Rattle.dbpl_promise.specs.Promises.{Answered}
+use Rattle.dbpl_promise.specs.Running.{EndsRun, MayRun, ended, running}
 use Rattle.dbpl_promise.specs.Runs.{Run}
-use Rattle.dbpl_promise.specs.Stages.{IsDetermined, IsDue, Stage, Stops, ◌>>=◌}
+use Rattle.dbpl_promise.specs.Stages.{IsDetermined, MayAnswer, Stage, Stops, ◌>>=◌}
 use Rattle.dbpl_promise.specs.Work.{IsTold, Work}
-use Rattle.dbpl_world.proofs.Moments.{moments_start}
-use Rattle.dbpl_world.specs.History.{History, State, now}
-use Rattle.dbpl_world.specs.Moments.{EachMoment}
-
--- Nothing was done: the world is as it was, no print has failed, and another fault is the answer.
-pub record IsStill (work : Work) (answer : Status) : Type 0 where
-  pub world : IsTrue work.tells → work.after ≡ work.before
-  pub prints : work.counts_after.say_faults ≡ work.counts_before.say_faults
-  pub disk : (answer ≡ status.DiskFault) ⊎ (work.counts_after.disk_faults ≡ work.counts_before.disk_faults)
-  pub source : (answer ≡ status.SourceFault) ⊎ (work.shelf_faults_after ≡ work.shelf_faults_before)
+use Rattle.dbpl_world.specs.History.{now}
 
 -- refused before a store may be mounted, or a fault or want of memory
 abbrev pub StopsUnmounted : {A : Type 0} → Stage A → Work → Status → Type 0
@@ -27,15 +19,9 @@ StopsUnmounted stage work answer =
     (stage.refuses work answer × (IsTold work → (name : List ℕ) → stage.mounts work name → ⊥))
     ⊎ (stage.fails work answer ⊎ (answer ≡ status.Memory))
 
-pub still_moments : (Q : State → Type 0) (work : Work) {answer : Status} → IsStill work answer → IsTrue work.tells →
-    Q (now work.before) → EachMoment Q work.before work.after
-still_moments Q work still tells holds =
-    subst (λ (h : History). EachMoment Q work.before h) (sym (still.world tells)) (moments_start Q work.before holds)
-
 module _ (stage : Stage Run) (work : Work) (answer : Status) (kinds : HasKinds stage)
     (still : IsStill work answer) where
-  due : StopsUnmounted stage work answer →
-      IsDue (stage >>= ended) work answer ⊎ ((stage >>= ended).fails work answer ⊎ (answer ≡ status.Memory))
+  due : StopsUnmounted stage work answer → MayAnswer (stage >>= ended) work answer
   due (inl refused) = inl (inl (inl refused.0))
   due (inr (inl fault)) = inr (inl (inl fault))
   due (inr (inr memory)) = inr (inr memory)
@@ -61,31 +47,16 @@ module _ (stage : Stage Run) (work : Work) (answer : Status) (kinds : HasKinds s
     input = refl;
   }
 
-  -- nothing has changed at the end either
-  same : IsTrue work.tells → now work.before ≡ now work.after
-  same tells = sym (ap now (still.world tells))
-
-  ends : StopsUnmounted stage work answer → EndsRun stage work answer (now work.after)
+  ends : StopsUnmounted stage work answer → EndsRun stage work answer (now work.before)
   ends why = record {
     whole = λ told run passes tells. absurd (no_end why tells);
-    at_rest = λ told run passes stood fine.
-        subst (SomeWereMade run (now work.before)) (same told.world) (some_here run (now work.before) stood);
+    at_rest = λ told run passes stood fine. some_here run (now work.before) stood;
     pages = λ told tells name mounts. absurd (no_end why tells);
     settled = λ told refuses name mounts. absurd (unmounted why told refuses name mounts);
   }
 
   pub stopped : StopsUnmounted stage work answer → Answered (running stage) work answer
-  stopped why = record {
-    answers = due why;
-    moments = λ tells. still_moments (MayRun stage work answer) work still tells may_here;
-    end = λ tells. ends why;
-    only = λ tells.
-        still_moments (LeavesAlone ((stage >>= ended).mounts work) (now work.before)) work still tells
-        (alone_here ((stage >>= ended).mounts work) (now work.before));
-    prints = inr still.prints;
-    disk = still.disk;
-    source = still.source;
-  }
+  stopped why = kept_still work answer still (running stage) (due why) may_here (ends why)
 
 -- Where the first of its stages stopped, which mounts no store.
 module _ {A : Type 0} (stage : Stage A) (next : A → Stage Run) (work : Work) (answer : Status)

@@ -1,32 +1,21 @@
--- No command that runs a program answers bad words.
-use Rattle.std.proofs.Common.{◌≡◌, ◌⊎◌, ℕ, List, None, Option, Some, inl, inr}
+-- No command that was asked for answers bad words, and one that answers an end has passed all its stages.
+use Rattle.std.proofs.Common.{ap, inl, inr}
+use Rattle.dbpl_base.specs.declared.status.Status.{Status}
 use Rattle.dbpl_base.specs.declared.status.Status.TheVariants as status
-use Rattle.dbpl_core.specs.Outcomes.{Ended, Going, IsToldBy, Standing, Trapped}
-use Rattle.dbpl_promise.proofs.AnswerKinds.{HasKinds}
-use Rattle.dbpl_promise.specs.Promises.{Answered}
-use Rattle.dbpl_promise.specs.Running.{ended, run_faults, running}
-use Rattle.dbpl_promise.specs.Runs.{Run}
-use Rattle.dbpl_promise.specs.Stages.{IsDue, Stage, ◌>>=◌}
+use Rattle.dbpl_core.specs.Outcomes.{TellsOfEnd}
+use Rattle.dbpl_promise.proofs.AnswerKinds.{Concludes, HasKinds, end_kind, kind_of}
+use Rattle.dbpl_promise.specs.Stages.{MayAnswer, Stage}
 use Rattle.dbpl_promise.specs.Work.{Work}
 
-no_end : (standing : Standing) → IsToldBy standing status.BadWords → ⊥
-no_end Ended told = cc (told)
-no_end (Trapped trap) told = cc (told)
-no_end Going told = told
+module _ (stage : Stage Status) (kinds : HasKinds stage) (work : Work) where
+  pub never_bad_words : Concludes stage → MayAnswer stage work status.BadWords → ⊥
+  never_bad_words concludes (inl (inl refuses)) = cc (kinds.refuses work status.BadWords refuses)
+  never_bad_words concludes (inl (inr passes)) = cc (concludes work status.BadWords passes)
+  never_bad_words concludes (inr (inl fault)) = cc (kinds.fails work status.BadWords fault)
+  never_bad_words concludes (inr (inr memory)) = cc (memory)
 
-no_fault : (store : Option (List ℕ)) (work : Work) → run_faults store work status.BadWords → ⊥
-no_fault None work rose = rose
-no_fault (Some name) work (inl rose) = rose
-no_fault (Some name) work (inr rose) = rose
-
-module _ (stage : Stage Run) (work : Work) (kinds : HasKinds stage) where
-  due_never : IsDue (stage >>= ended) work status.BadWords ⊎ ((stage >>= ended).fails work status.BadWords ⊎ (status.BadWords ≡ status.Memory)) → ⊥
-  due_never (inl (inl (inl refuses))) = cc (kinds.refuses work status.BadWords refuses)
-  due_never (inl (inl (inr within))) = within.2
-  due_never (inl (inr (run, passes, ends))) = no_end (run.means ends.input ends.turns).stands ends.ends
-  due_never (inr (inl (inl fault))) = cc (kinds.fails work status.BadWords fault)
-  due_never (inr (inl (inr (run, passes, fault)))) = no_fault run.store work fault
-  due_never (inr (inr memory)) = cc (memory)
-
-  pub never_bad_words : Answered (running stage) work status.BadWords → ⊥
-  never_bad_words did = due_never did.answers
+  pub passed_all : (answer : Status) → TellsOfEnd answer → MayAnswer stage work answer → stage.passes work answer
+  passed_all answer ends (inl (inl refuses)) = absurd (cc (kinds.refuses work answer refuses, end_kind answer ends))
+  passed_all answer ends (inl (inr passes)) = passes
+  passed_all answer ends (inr (inl fault)) = absurd (cc (kinds.fails work answer fault, end_kind answer ends))
+  passed_all answer ends (inr (inr memory)) = absurd (cc (ap kind_of memory, end_kind answer ends))

@@ -4,7 +4,7 @@ use Rattle.dbpl_base.specs.declared.status.Status.{Status}
 use Rattle.dbpl_base.specs.declared.status.Status.TheVariants as status
 use Rattle.dbpl_log.specs.Changes.{IsSynced}
 use Rattle.dbpl_promise.specs.Runs.{Run}
-use Rattle.dbpl_promise.specs.Stages.{IsDue, Stage}
+use Rattle.dbpl_promise.specs.Stages.{MayAnswer, Stage}
 use Rattle.dbpl_promise.specs.Work.{Work}
 use Rattle.dbpl_world.specs.History.{State, now, store_of}
 use Rattle.dbpl_world.specs.Moments.{EachMoment}
@@ -30,7 +30,7 @@ pub record LeavesAlone (mounts : List ℕ → Type 0) (old s : State) : Type 0 w
 -- THE promise is kept by this work and its answer.
 pub record Answered (promise : Promise) (work : Work) (answer : Status) : Type 0 where
   -- The answer is the one that is due, or a fault or want of memory came before it. A fault comes only where its count rose.
-  pub answers : IsDue promise.due work answer ⊎ (promise.due.fails work answer ⊎ (answer ≡ status.Memory))
+  pub answers : MayAnswer promise.due work answer
   pub moments : IsTrue work.tells → EachMoment (promise.may work answer) work.before work.after
   pub end : IsTrue work.tells → promise.ends work answer (now work.after)
   -- Nothing else changes, and no store is mounted but one that may be.

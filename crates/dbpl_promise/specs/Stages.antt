@@ -54,3 +54,7 @@ IsDecided {A = A} stage work = ((a : A) × stage.passes work a) ⊎ ((answer : S
 -- THE answer that is due: the refusal of the first stage that doesn't pass, or that with which all pass
 abbrev pub IsDue : Stage Status → Work → Status → Type 0
 IsDue stage work answer = stage.refuses work answer ⊎ stage.passes work answer
+
+-- the answer that is due, or a fault or want of memory that came before it
+abbrev pub MayAnswer : Stage Status → Work → Status → Type 0
+MayAnswer stage work answer = IsDue stage work answer ⊎ (stage.fails work answer ⊎ (answer ≡ status.Memory))

@@ -1,5 +1,5 @@
 -- Where the files are told, each is fetched, or there is none of its name, or it passes the limit.
-use Rattle.std.proofs.Common.{◌≡◌, ◌≤◌, ◌<◌, ◌⊎◌, ℕ, List, [], ◌∷◌, None, Option, Some, inl, inr, Bool, false, leb, length, refl, true}
+use Rattle.std.proofs.Common.{◌≡◌, ◌≤◌, ◌<◌, ◌⊎◌, ℕ, List, [], ◌∷◌, None, Option, Some, inl, inr, false, leb, length, refl, true}
 use Rattle.std.proofs.lemmas.Bool.Decides.{leb_tells}
 use Rattle.std.specs.Prelude.{IsSome}
 use Rattle.dbpl_base.specs.declared.limits.TheConstants.{SOURCE_BYTES}

@@ -1,5 +1,5 @@
 -- Some answer of each command over stores is due.
-use Rattle.std.proofs.Common.{◌≡◌, ◌≤◌, ◌<◌, ◌⊎◌, ℕ, List, [], ◌∷◌, Bool, false, inl, inr, leb, length, refl, subst, sym, true}
+use Rattle.std.proofs.Common.{◌≡◌, ◌≤◌, ◌<◌, ◌⊎◌, ℕ, List, [], ◌∷◌, false, inl, inr, leb, length, refl, subst, sym, true}
 use Rattle.std.proofs.lemmas.Bool.Decides.{leb_tells}
 use Rattle.dbpl_base.specs.declared.status.Status.{Status}
 use Rattle.dbpl_base.specs.declared.status.Status.TheVariants as status
@@ -10,7 +10,7 @@ use Rattle.dbpl_promise.proofs.Decided.{all_bound_decided, decided_given, decide
 use Rattle.dbpl_promise.specs.Opening.{all_bound, named, opened, store_before}
 use Rattle.dbpl_promise.specs.Running.{ComesToEnd, ended, running}
 use Rattle.dbpl_promise.specs.Runs.{Run}
-use Rattle.dbpl_promise.specs.Stages.{IsDecided, gives, ◌>>=◌}
+use Rattle.dbpl_promise.specs.Stages.{IsDecided, gives}
 use Rattle.dbpl_promise.specs.Work.{IsTold, Work}
 use Rattle.dbpl_sources.proofs.Decided.{all_decided}
 use Rattle.dbpl_sources.specs.Fetching.{all_fetched}

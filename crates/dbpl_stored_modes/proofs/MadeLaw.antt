@@ -1,5 +1,5 @@
 -- Why the command that makes a store keeps its promise: from what making one of the mounted store says.
-use Rattle.std.proofs.Common.{◌≡◌, ◌∙◌, ◌⊎◌, ◌≤◌, ◌<◌, ℕ, Bool, List, [], ◌∷◌, Some, Result, Ok, Err, OnOk, IsTrue, ap, arith, inl, inr, length, refl, subst, sym}
+use Rattle.std.proofs.Common.{◌≡◌, ◌∙◌, ◌⊎◌, ◌<◌, ℕ, Bool, List, [], ◌∷◌, Some, Result, Ok, Err, OnOk, IsTrue, ap, arith, inl, inr, length, refl, subst, sym}
 use Rattle.dbpl_base.specs.declared.status.Status.{Status}
 use Rattle.dbpl_base.specs.declared.status.Status.TheVariants as status
 use Rattle.dbpl_log.specs.Beginning.{IsForeign, IsFree, begun, longest_unknown}
@@ -7,15 +7,18 @@ use Rattle.dbpl_log.specs.Changes.{IsSynced, WritesLog}
 use Rattle.dbpl_log.specs.Records.{HasHead}
 use Rattle.dbpl_log.specs.declared.create_err.CreateErr.{CreateErr}
 use Rattle.dbpl_log.specs.declared.create_err.CreateErr.TheVariants as errors
+use Rattle.dbpl_promise.proofs.AnswerKinds.{HasKinds, Refusal, concludes_done, concludes_joined, kind_of, kinds_given, kinds_joined}
 use Rattle.dbpl_promise.proofs.Determined.{given, joined}
 use Rattle.dbpl_promise.proofs.Leaving.{alone_here, untouched_here}
 use Rattle.dbpl_promise.proofs.Mounted.{SinceMounted, alone_there, moments_mounted, mounted_disk, mounted_input, mounted_said, mounted_state, only_disk, since_mounted, stands_there, untouched_there}
-use Rattle.dbpl_promise.proofs.Stopped.{IsStill, still_moments}
+use Rattle.dbpl_promise.proofs.Rows.{IsRow, idle_row}
+use Rattle.dbpl_promise.proofs.Stages.{disk_kind}
+use Rattle.dbpl_promise.proofs.Still.{IsStill, kept_still}
 use Rattle.dbpl_promise.proofs.Together.{moments_all, moments_both}
 use Rattle.dbpl_promise.specs.Leaving.{IsUntouched}
 use Rattle.dbpl_promise.specs.Opening.{store_before}
 use Rattle.dbpl_promise.specs.Promises.{Answered, LeavesAlone}
-use Rattle.dbpl_promise.specs.Stages.{IsDetermined, IsDue, gives}
+use Rattle.dbpl_promise.specs.Stages.{IsDetermined, MayAnswer, gives}
 use Rattle.dbpl_promise.specs.Work.{Work}
 use Rattle.dbpl_store.specs.Beginning.{LeavesBegun, MayBecomeEmpty, StandsEmpty}
 use Rattle.dbpl_store.specs.Stands.{LeavesOld, stands}
@@ -63,6 +66,23 @@ module _ (name : List ℕ) (work : Work) (tells : IsTrue work.tells) where
 
   pub create_determined : IsDetermined (creates name).due work
   create_determined = joined (store_made name) (λ _. gives status.Done) work made_determined (λ done passes. given work status.Done)
+
+-- ---- the row
+
+taken_kind : (name : List ℕ) (work : Work) (answer : Status) → IsTaken name work answer → kind_of answer ≡ Refusal
+taken_kind name work status.Exists is = refl
+taken_kind name work status.Foreign is = refl
+taken_kind name work _ is = absurd is
+
+made_kinds : (name : List ℕ) → HasKinds (store_made name)
+made_kinds name = record { refuses = taken_kind name; fails = disk_kind }
+
+pub create_row : (name : List ℕ) → IsRow (creates name)
+create_row name =
+    idle_row (creates name) (λ work run never. never)
+    (kinds_joined (store_made name) (λ _. gives status.Done) (made_kinds name) (λ _. kinds_given status.Done))
+    (concludes_joined (store_made name) (λ _. gives status.Done) (λ _. concludes_done))
+    (λ work told. create_determined name work told.world)
 
 -- ---- what making an empty store of the mounted one says
 
@@ -131,10 +151,7 @@ module _ (name : List ℕ) (work : Work) (mid : History) (counts_mid : Counts) (
 
   -- ---- the answer
 
-  abbrev IsAnswer : Status → Type 0
-  IsAnswer a = IsDue (creates name).due work a ⊎ ((creates name).due.fails work a ⊎ (a ≡ status.Memory))
-
-  due : (r : Result (Unit {0}) CreateErr) → result ≡ r → IsAnswer (answer_of r)
+  due : (r : Result (Unit {0}) CreateErr) → result ≡ r → MayAnswer (creates name).due work (answer_of r)
   due (Ok done) e =
       inl (inr (tt {0}, (λ told. subst IsFree (disk told) (on_done result (ap answer_of e) (run.free told))), refl))
   due (Err errors.Exists) e = inl (inl (inl (λ told. subst (λ (d : Store). HasHead d.log.now) (disk told) (run.exists told e))))
@@ -260,11 +277,8 @@ abbrev pub IsUnmounted : Work → Status → Type 0
 IsUnmounted work answer = ((answer ≡ status.DiskFault) × Rose work.counts_before.disk_faults work.counts_after.disk_faults) ⊎ (answer ≡ status.Memory)
 
 module _ (name : List ℕ) (work : Work) (answer : Status) (still : IsStill work answer) where
-  fault : IsUnmounted work answer →
-      IsDue (creates name).due work answer ⊎ ((creates name).due.fails work answer ⊎ (answer ≡ status.Memory))
-  fault (inl why) =
-      subst (λ (a : Status). IsDue (creates name).due work a ⊎ ((creates name).due.fails work a ⊎ (a ≡ status.Memory))) (sym why.0)
-      (inr (inl (inl why.1)))
+  fault : IsUnmounted work answer → MayAnswer (creates name).due work answer
+  fault (inl why) = subst (MayAnswer (creates name).due work) (sym why.0) (inr (inl (inl why.1)))
   fault (inr why) = inr (inr why)
 
   not_that : IsUnmounted work answer → (due : Status) → (status.DiskFault ≡ due → ⊥) → (status.Memory ≡ due → ⊥) → answer ≡ due → ⊥
@@ -276,36 +290,18 @@ module _ (name : List ℕ) (work : Work) (answer : Status) (still : IsStill work
   neither why (inr e) = not_that why status.Foreign (λ d. cc) (λ d. cc) e
 
   pub uncreated : IsUnmounted work answer → Answered (creates name) work answer
-  uncreated why = record {
-    answers = fault why;
-    moments = λ told. still_moments (MayCreate name work answer) work still told (record {
-      stage = λ may log pages log_left pages_left. record { stage = inl (may log pages log_left pages_left); said_is = refl };
-      kept = λ why. untouched_here (now work.before);
-      said = refl;
-      input = refl;
-    });
-    end = λ told. record {
-      made = λ e. absurd (not_that why status.Done (λ d. cc) (λ d. cc) e);
-      bytes = λ e. absurd (not_that why status.Done (λ d. cc) (λ d. cc) e);
-      pages = λ e. absurd (not_that why status.Done (λ d. cc) (λ d. cc) e);
-      settled = λ which. absurd (neither why which);
-    };
-    only = λ told.
-        still_moments (LeavesAlone ((creates name).due.mounts work) (now work.before)) work still told
-        (alone_here ((creates name).due.mounts work) (now work.before));
-    prints = inr still.prints;
-    disk = still.disk;
-    source = still.source;
-  }
-
--- making a store is never answered as bad words
-pub never_bad_words : (name : List ℕ) (work : Work) → Answered (creates name) work status.BadWords → ⊥
-never_bad_words name work did = by_answer did.answers
-  where
-    by_answer : IsDue (creates name).due work status.BadWords ⊎ ((creates name).due.fails work status.BadWords ⊎ (status.BadWords ≡ status.Memory)) → ⊥
-    by_answer (inl (inl (inl refuses))) = refuses
-    by_answer (inl (inl (inr within))) = within.2
-    by_answer (inl (inr (done, passes, same))) = cc (same)
-    by_answer (inr (inl (inl fault))) = fault
-    by_answer (inr (inl (inr within))) = within.2
-    by_answer (inr (inr memory)) = cc (memory)
+  uncreated why =
+      kept_still work answer still (creates name) (fault why)
+      (record {
+        stage = λ may log pages log_left pages_left.
+            record { stage = inl (may log pages log_left pages_left); said_is = refl };
+        kept = λ why. untouched_here (now work.before);
+        said = refl;
+        input = refl;
+      })
+      (record {
+        made = λ e. absurd (not_that why status.Done (λ d. cc) (λ d. cc) e);
+        bytes = λ e. absurd (not_that why status.Done (λ d. cc) (λ d. cc) e);
+        pages = λ e. absurd (not_that why status.Done (λ d. cc) (λ d. cc) e);
+        settled = λ which. absurd (neither why which);
+      })

@@ -1,5 +1,5 @@
 -- Why a run over the store of a name keeps its promise: from what a run over the mounted store says.
-use Rattle.std.proofs.Common.{◌≡◌, ◌≢◌, ◌∙◌, ◌⊎◌, ◌≤◌, ◌++◌, ℕ, Bool, List, [], ◌∷◌, None, Option, Some, Result, Ok, Err, OnOk, IfErr, IsOk, IsTrue, ap, arith, bytes_eq, false, inl, inr, refl, subst, sym, take, true}
+use Rattle.std.proofs.Common.{◌≡◌, ◌≢◌, ◌∙◌, ◌⊎◌, ◌++◌, ℕ, Bool, List, [], ◌∷◌, None, Option, Some, Result, Ok, Err, OnOk, IfErr, IsOk, IsTrue, ap, bytes_eq, false, inl, inr, refl, subst, sym, take, true}
 use Rattle.std.proofs.lemmas.Slice.Eq.{bytes_eq-Decides}
 use Rattle.dbpl_base.specs.declared.status.Status.{Status}
 use Rattle.dbpl_base.specs.declared.status.Status.TheVariants as status
@@ -18,7 +18,7 @@ use Rattle.dbpl_promise.specs.Promises.{Answered, LeavesAlone}
 use Rattle.dbpl_promise.specs.Refusals.{is_refusal}
 use Rattle.dbpl_promise.specs.Running.{EndsRun, SomeWereMade, MayRun, RunsNothing, ended, running}
 use Rattle.dbpl_promise.specs.Runs.{WereMade, IsTied, IsWhole, Leaves, Run, StoodFor}
-use Rattle.dbpl_promise.specs.Stages.{IsDue, ◌>>=◌}
+use Rattle.dbpl_promise.specs.Stages.{MayAnswer, ◌>>=◌}
 use Rattle.dbpl_promise.specs.Work.{IsTold, Work}
 use Rattle.dbpl_store.specs.Stands.{LeavesOld, stands}
 use Rattle.dbpl_stored_modes.proofs.Stages.{found_over, over_kinds, over_mounts, over_store, passes_over, run_of}
@@ -240,7 +240,7 @@ module _ (store : List ℕ) (stored : StoredProgram) (work : Work) (mid : Histor
       }
 
   abbrev IsAnswer : Status → Type 0
-  IsAnswer a = IsDue (over_store store stored >>= ended) work a ⊎ ((over_store store stored >>= ended).fails work a ⊎ (a ≡ status.Memory))
+  IsAnswer answered = MayAnswer (over_store store stored >>= ended) work answered
 
   due : (r : Result (Unit {0}) StopErr) → result ≡ r → TellsOfRun stored r answer → IsAnswer answer
   due (Ok done) e told =

@@ -1,5 +1,5 @@
 -- What the stages of a run over a store do.
-use Rattle.std.proofs.Common.{◌≡◌, ◌∙◌, ◌⊎◌, ◌+◌, ℕ, List, [], ◌∷◌, Err, IfErr, IfOk, IsTrue, Ok, Result, Some, arith, get_or, inl, inr, length, map, refl, subst, sym}
+use Rattle.std.proofs.Common.{◌≡◌, ◌∙◌, ◌⊎◌, ◌+◌, ℕ, Bool, List, [], ◌∷◌, Err, IfErr, IfOk, IsTrue, Ok, Option, Result, Some, ap, arith, get_or, inl, inr, length, map, refl, subst, sym}
 use Rattle.dbpl_base.specs.declared.place.Place.{Place}
 use Rattle.dbpl_base.specs.declared.status.Status.{Status}
 use Rattle.dbpl_base.specs.declared.status.Status.TheVariants as status
@@ -7,11 +7,13 @@ use Rattle.dbpl_core.specs.Outcomes.{IsSteady}
 use Rattle.dbpl_promise.proofs.AnswerKinds.{HasKinds, Refusal, kind_of, kinds_given, kinds_joined}
 use Rattle.dbpl_promise.proofs.Determined.{given, joined}
 use Rattle.dbpl_promise.proofs.InFront.{in_front}
+use Rattle.dbpl_promise.proofs.Rows.{BeginsAs, IsRow, at_beginning, running_row}
 use Rattle.dbpl_promise.proofs.Stages.{all_bound_determined, all_bound_kinds, all_bound_mounts, named_determined, named_kinds, opened_determined, opened_kinds, running_determined}
-use Rattle.dbpl_promise.proofs.Stopped.{IsStill, StopsUnmounted, stopped, stops_in_front}
+use Rattle.dbpl_promise.proofs.Still.{IsStill}
+use Rattle.dbpl_promise.proofs.Stopped.{StopsUnmounted, stopped, stops_in_front}
 use Rattle.dbpl_promise.specs.Opening.{StandsAs, all_bound, named, no_store, opened, store_before}
 use Rattle.dbpl_promise.specs.Promises.{Answered}
-use Rattle.dbpl_promise.specs.Running.{ended, running}
+use Rattle.dbpl_promise.specs.Running.{running}
 use Rattle.dbpl_promise.specs.Runs.{Run}
 use Rattle.dbpl_promise.specs.Stages.{IsDetermined, Stage, Stops, gives, ◌>>=◌}
 use Rattle.dbpl_promise.specs.Work.{IsTold, Work}
@@ -26,6 +28,8 @@ use Rattle.dbpl_stored_program.specs.Meaning.{meaning}
 use Rattle.dbpl_stored_program.specs.declared.stored_program.StoredProgram.{StoredProgram}
 use Rattle.dbpl_value.specs.Binding.{Binds}
 use Rattle.dbpl_value.specs.declared.bound.Bound.{Bound}
+use Rattle.dbpl_world.specs.Files.{Files}
+use Rattle.dbpl_world.specs.History.{History}
 
 -- the run of a program over a store that stands for this database, once it is bound
 abbrev pub run_of : List ℕ → StoredProgram → List Bound → List Bound → Run
@@ -217,10 +221,6 @@ module _ {X : Type 0} (bytes : X → List ℕ) (texts : List X) (one other : X) 
 -- ---- the whole
 
 module _ (store schema program : List ℕ) (work : Work) where
-  pub over_all_kinds : HasKinds (runs_over store schema program)
-  over_all_kinds =
-      kinds_joined (reads_program schema program) (runs_program store) (reading_kinds schema program) (program_kinds store)
-
   steady_run : (run : Run) → (runs_over store schema program).passes work run → (input : List ℕ) → IsSteady (run.means input)
   steady_run run (stored, reads, (done, named, passes)) input =
       let found = found_over store stored work run passes in
@@ -232,11 +232,41 @@ module _ (store schema program : List ℕ) (work : Work) where
       (joined (reads_program schema program) (runs_program store) work (reading_determined schema program work told)
       (λ stored passes. program_determined store stored work told.world)) steady_run told.world
 
+module _ (store schema program : List ℕ) where
+  run_kinds : HasKinds (runs_over store schema program)
+  run_kinds =
+      kinds_joined (reads_program schema program) (runs_program store) (reading_kinds schema program)
+      (program_kinds store)
+
+  rests : (work other : Work) (run : Run) → BeginsAs work other → (runs_over store schema program).passes work run →
+      (runs_over store schema program).passes other run
+  rests work other run =
+      at_beginning
+      (λ (files : Option Files) (tells : Bool) (before : History).
+      (runs_over store schema program).passes (record other { files = files; tells = tells; before = before }) run)
+      work other
+
+  reads : (work : Work) (run : Run) (over : List ℕ) → IsTrue work.tells →
+      (runs_over store schema program).passes work run → run.store ≡ Some over →
+      StandsAs run.database (store_before over work)
+  reads work run over tells (stored, texts, (done, name, passes)) is =
+      let found = found_over store stored work run passes in
+      let named_so : Some store ≡ Some over = sym (ap (λ (r : Run). r.store) found.is) ∙ is in
+      let this : store ≡ over = cc (named_so) in
+      subst (λ (name : List ℕ). StandsAs run.database (store_before name work)) this
+      (subst (λ (r : Run). StandsAs r.database (store_before store work)) (sym found.is) (found.reads tells))
+
+  pub over_row : IsRow (running (runs_over store schema program))
+  over_row =
+      running_row (runs_over store schema program) run_kinds (run_determined store schema program)
+      (record { rests = rests; reads = reads })
+
+module _ (store schema program : List ℕ) (work : Work) where
   -- stopped by the files, with nothing done
   pub unread : (answer : Status) → Stops (reads_program schema program) work answer → IsStill work answer →
       Answered (running (runs_over store schema program)) work answer
   unread answer stops still =
-      stopped (runs_over store schema program) work answer over_all_kinds still
+      stopped (runs_over store schema program) work answer (run_kinds store schema program) still
       (stops_in_front (reads_program schema program) (runs_program store) work answer (reading_mounts schema program work)
       (reading_determined schema program work) stops)
 

@@ -1,31 +1,29 @@
 -- Two commands, one behind the other: what the first one leaves is what the second one may run over.
-use Rattle.std.proofs.Common.{◌≡◌, ◌∙◌, ◌⊎◌, ℕ, List, [], ◌++◌, Bool, IsTrue, None, Option, Some, ap, false, inl, inr, map, refl, subst, sym, true}
+use Rattle.std.proofs.Common.{◌≡◌, ◌∙◌, ℕ, List, [], ◌++◌, Bool, IsTrue, None, Option, Some, ap, false, inl, inr, map, refl, subst, sym, true}
 use Rattle.std.specs.Prelude.{bytes_eq, if◌then◌else◌}
-use Rattle.dbpl_alone.specs.Command.{runs_alone}
 use Rattle.dbpl_base.specs.declared.status.Status.{Status}
 use Rattle.dbpl_base.specs.declared.status.Status.TheVariants as status
 use Rattle.dbpl_core.specs.Events.{last}
 use Rattle.dbpl_core.specs.Outcomes.{IsSteady as IsSteadyMeaning, Outcome, TellsOfEnd}
-use Rattle.dbpl_promise.proofs.AnswerKinds.{HasKinds, end_kind}
 use Rattle.dbpl_promise.proofs.Headline.{now_noted}
+use Rattle.dbpl_promise.proofs.Rows.{BeginsAs}
 use Rattle.dbpl_promise.proofs.Stages.{one_end}
+use Rattle.dbpl_promise.proofs.Unasked.{passed_all}
 use Rattle.dbpl_promise.specs.Promises.{Answered}
-use Rattle.dbpl_promise.specs.Running.{ended, running}
+use Rattle.dbpl_promise.specs.Running.{running}
 use Rattle.dbpl_promise.specs.Runs.{IsWhole, Leaves, Run as Running, StoodFor}
-use Rattle.dbpl_promise.specs.Stages.{IsDue, ◌>>=◌}
 use Rattle.dbpl_promise.specs.Work.{IsTold, Work}
 use Rattle.dbpl_store.specs.Stands.{stands}
-use Rattle.dbpl_stored_modes.proofs.Stages.{found_over, meaning_steady, over_all_kinds, run_of}
+use Rattle.dbpl_stored_modes.proofs.Stages.{found_over, meaning_steady, over_row, run_of}
 use Rattle.dbpl_stored_modes.specs.CreateCommand.{creates}
 use Rattle.dbpl_stored_modes.specs.Images.{EachImage, StandsThere}
 use Rattle.dbpl_stored_modes.specs.RunCommand.{runs_over}
-use Rattle.dbpl_tool.specs.Commands.{Keeps, Runs, promise_of}
+use Rattle.dbpl_tool.proofs.Rows.{row_of}
+use Rattle.dbpl_tool.specs.Commands.{Keeps, Runs}
 use Rattle.dbpl_tool.specs.Next.{LeavesStore}
 use Rattle.dbpl_value.specs.declared.bound.Bound.{Bound}
-use Rattle.dbpl_words.specs.Asked.{Asked, Create, Run, RunAlone}
-use Rattle.dbpl_world.specs.Files.{Files}
+use Rattle.dbpl_words.specs.Asked.{Create, Run}
 use Rattle.dbpl_world.specs.History.{AllReadAnImage, History, Noted, ReadsAnImage, State, Store, more, now, store_among, store_of}
-use Rattle.dbpl_world.specs.declared.counts.Counts.{Counts}
 
 -- ---- what a read gives of any store is an image of it
 
@@ -71,24 +69,6 @@ behind_notes name s noted stood = stood
 
 -- ---- behind the first command
 
--- the run that came to its end
-came_to : (store schema program : List ℕ) (work : Work) (answer : Status) → TellsOfEnd answer →
-    Answered (running (runs_over store schema program)) work answer → (run : Running) × (runs_over store schema program).passes work run
-came_to store schema program work answer ends did = by_answer did.answers
-  where
-    kinds : HasKinds (runs_over store schema program)
-    kinds = over_all_kinds store schema program work
-
-    by_answer : IsDue (runs_over store schema program >>= ended) work answer
-        ⊎ ((runs_over store schema program >>= ended).fails work answer ⊎ (answer ≡ status.Memory)) →
-        (run : Running) × (runs_over store schema program).passes work run
-    by_answer (inl (inl (inl refuses))) = absurd (cc (kinds.refuses work answer refuses, end_kind answer ends))
-    by_answer (inl (inl (inr within))) = absurd within.2
-    by_answer (inl (inr (run, passes, told))) = (run, passes)
-    by_answer (inr (inl (inl fault))) = absurd (cc (kinds.fails work answer fault, end_kind answer ends))
-    by_answer (inr (inl (inr (run, passes, fault)))) = (run, passes)
-    by_answer (inr (inr memory)) = absurd (subst TellsOfEnd memory ends)
-
 -- the same of all the images that a whole run leaves
 whole_one : (store : List ℕ) (run : Running) (old : State) (answer : Status) (left : List ℕ) (said : List ℕ) →
     ((input : List ℕ) → IsSteadyMeaning (run.means input)) → (one other : Option (List Bound)) →
@@ -103,10 +83,12 @@ after_create store work told did = ([], (did.end told).made refl)
 after_run : (store schema program : List ℕ) (work : Work) (answer : Status) → IsTold work → AllReadAnImage (now work.after) → TellsOfEnd answer →
     Answered (running (runs_over store schema program)) work answer → StandsForOne store (now work.after)
 after_run store schema program work answer told all ends did =
-    by_run (came_to store schema program work answer ends did)
+    by_run
+    (passed_all (running (runs_over store schema program)).due (over_row store schema program).kinds work answer ends
+    did.answers)
   where
-    by_run : (run : Running) × (runs_over store schema program).passes work run → StandsForOne store (now work.after)
-    by_run (run, (stored, reads, (done, named, over))) =
+    by_run : (running (runs_over store schema program)).due.passes work answer → StandsForOne store (now work.after)
+    by_run (run, (stored, reads, (done, named, over)), told_by) =
         let found = found_over store stored work run over in
         let this = run_of store stored found.database found.bound in
         let whole : Leaves run.store (IsWhole run (now work.before) answer (now work.after).input) (now work.after) =
@@ -155,38 +137,16 @@ module _ (words : List (List ℕ)) (work : Work) (answer : Status) (told : IsTol
 
 -- ---- the second command runs over it
 
--- what is run rests on the files, and on what was there before
-runs_with : (asked : Asked) (work : Work) (files : Option Files) (before after : ℕ) (new : History) (counts counts_new : Counts) (run : Running) →
-    work.files ≡ files → (promise_of asked).runs work run →
-    (promise_of asked).runs (record work { files = files; shelf_faults_before = before; shelf_faults_after = after; after = new; counts_before = counts; counts_after = counts_new }) run
-runs_with (RunAlone file) work files before after new counts counts_new run same runs =
-    subst (λ (f : Option Files). (runs_alone file).passes (record work { files = f; shelf_faults_before = before; shelf_faults_after = after; after = new; counts_before = counts; counts_after = counts_new }) run)
-    same runs
-runs_with (Create store) work files before after new counts counts_new run same runs = absurd runs
-runs_with (Run store schema program) work files before after new counts counts_new run same runs =
-    subst (λ (f : Option Files). (runs_over store schema program).passes (record work { files = f; shelf_faults_before = before; shelf_faults_after = after; after = new; counts_before = counts; counts_after = counts_new }) run)
-    same runs
-
-pub runs_over_files : (words : List (List ℕ)) (work : Work) (files : Option Files) (before after : ℕ) (new : History) (counts counts_new : Counts) (run : Running) →
-    work.files ≡ files → Runs words work run →
-    Runs words (record work { files = files; shelf_faults_before = before; shelf_faults_after = after; after = new; counts_before = counts; counts_after = counts_new }) run
-runs_over_files words work files before after new counts counts_new run same runs =
-    (runs.0, runs.1, runs_with runs.0 work files before after new counts counts_new run same runs.2)
+-- what is run rests on the beginning
+pub runs_over_files : (words : List (List ℕ)) (work other : Work) (run : Running) → BeginsAs work other →
+    Runs words work run → Runs words other run
+runs_over_files words work other run same runs =
+    (runs.0, runs.1, (row_of runs.0).run_is.rests work other run same runs.2)
 
 -- a run over a store that stands as it reads
-stood_by : (asked : Asked) (work : Work) (store : List ℕ) (run : Running) → IsTrue work.tells → run.store ≡ Some store →
-    (promise_of asked).runs work run → StandsAsRead store (now work.before) → StoodFor run (now work.before)
-stood_by (RunAlone file) work store run tells over (text, has, (program, is, same)) stood =
-    absurd (cc (ap (λ (r : Running). r.store) same, over))
-stood_by (Create name) work store run tells over runs stood = absurd runs
-stood_by (Run name schema program) work store run tells over (stored, reads, (done, named, passes)) stood =
-    let found = found_over name stored work run passes in
-    let named_so : Some name ≡ Some store = sym (ap (λ (r : Running). r.store) found.is) ∙ over in
-    let this : name ≡ store = cc (named_so) in
-    let there : StandsAsRead name (now work.before) = subst (λ (n : List ℕ). StandsAsRead n (now work.before)) (sym this) stood in
-    subst (λ (r : Running). StoodFor r (now work.before)) (sym found.is)
-    (λ log pages log_left pages_left. there log pages log_left pages_left ∙ found.reads tells)
-
 pub stood_for : (words : List (List ℕ)) (work : Work) (store : List ℕ) (run : Running) → IsTrue work.tells → run.store ≡ Some store →
     Runs words work run → StandsAsRead store (now work.before) → StoodFor run (now work.before)
-stood_for words work store run tells over runs stood = stood_by runs.0 work store run tells over runs.2 stood
+stood_for words work store run tells over runs there =
+    let reads = (row_of runs.0).run_is.reads work run store tells runs.2 over in
+    subst (λ (s : Option (List ℕ)). Leaves s (λ found said. found ≡ Some run.database) (now work.before)) (sym over)
+    (λ log pages log_left pages_left. there log pages log_left pages_left ∙ reads)

@@ -1,4 +1,3 @@
 pub mod Following
 pub mod Noting
-pub mod OneAnswer
-pub mod Requests
+pub mod Rows

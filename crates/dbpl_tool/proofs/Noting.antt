@@ -1,18 +1,17 @@
 -- The report behind the work.
 use Rattle.std.proofs.Common.{◌≡◌, ◌∙◌, ◌≤◌, ℕ, List, [], ◌++◌, Bool, IsTrue, OnErr, OnOk, Ok, Err, Result, ap, false, inl, inr, map, refl, subst, sym, take, true}
-use Rattle.dbpl_alone.specs.Command.{runs_alone}
 use Rattle.dbpl_base.specs.Report.{report}
 use Rattle.dbpl_base.specs.declared.status.Status.{Status}
 use Rattle.dbpl_core.specs.Outcomes.{TellsOfEnd}
-use Rattle.dbpl_promise.proofs.Headline as law
+use Rattle.dbpl_promise.proofs.Headline.{headline, whole}
 use Rattle.dbpl_promise.specs.Promises.{Answered}
-use Rattle.dbpl_promise.specs.Runs.{IsTiedThroughout, IsWholeFromThen, Run as Running, StoodFor}
+use Rattle.dbpl_promise.specs.Runs.{IsTiedThroughout, IsWholeFromThen, Run, StoodFor}
 use Rattle.dbpl_promise.specs.Work.{IsTold, Work}
-use Rattle.dbpl_stored_modes.specs.RunCommand.{runs_over}
 use Rattle.dbpl_stored_run.specs.Leaving.{OnlyRunFaults}
+use Rattle.dbpl_tool.proofs.Rows.{row_of}
 use Rattle.dbpl_tool.specs.Commands.{IsReported, promise_of}
 use Rattle.dbpl_tool.specs.Notes.{NotesReport, OnlyCommandFaults, Reports}
-use Rattle.dbpl_words.specs.Asked.{Asked, Create, Run, RunAlone}
+use Rattle.dbpl_words.specs.Asked.{Asked}
 use Rattle.dbpl_world.proofs.Replays.{now-more, replay-noted}
 use Rattle.dbpl_world.specs.Counts.{OnlyNoteFaults, Rose}
 use Rattle.dbpl_world.specs.History.{History, Noted, State, more, now}
@@ -113,23 +112,23 @@ module _ (work : Work) (after : History) (counts : Counts) (status : Status) whe
         behind = is.behind;
       }
 
-  module _ (notes : Notes work after counts status) (told : IsTold work) (run : Running) where
-    pub headline_of : (asked : Asked) → Answered (promise_of asked) work status → (promise_of asked).runs (reported work after counts) run →
-        StoodFor run (now work.before) → IsTiedThroughout run (reported work after counts)
-    headline_of (RunAlone file) did runs stood =
-        let is = is_noted notes in
-        law.headline (runs_alone file) work status did told run runs after counts is.noted (is.behind told.world) stood
-    headline_of (Create store) did runs stood = absurd runs
-    headline_of (Run store schema program) did runs stood =
-        let is = is_noted notes in
-        law.headline (runs_over store schema program) work status did told run runs after counts is.noted (is.behind told.world) stood
+  module _ (notes : Notes work after counts status) (told : IsTold work) (run : Run) (asked : Asked)
+      (did : Answered (promise_of asked) work status)
+      (runs : (promise_of asked).runs (reported work after counts) run) where
+    -- what is run rests on nothing that came later
+    this : (promise_of asked).runs work run
+    this =
+        (row_of asked).run_is.rests (reported work after counts) work run
+        (record { files = refl; tells = refl; before = refl }) runs
 
-    pub whole_of : (asked : Asked) → Answered (promise_of asked) work status → (promise_of asked).runs (reported work after counts) run →
-        TellsOfEnd status → IsWholeFromThen run (reported work after counts) status
-    whole_of (RunAlone file) did runs ends =
+    pub headline_of : StoodFor run (now work.before) → IsTiedThroughout run (reported work after counts)
+    headline_of =
         let is = is_noted notes in
-        law.whole (runs_alone file) work status did told run runs after counts is.noted (is.behind told.world) ends
-    whole_of (Create store) did runs ends = absurd runs
-    whole_of (Run store schema program) did runs ends =
+        headline (promise_of asked) (row_of asked) work status did told run this after counts is.noted
+        (is.behind told.world)
+
+    pub whole_of : TellsOfEnd status → IsWholeFromThen run (reported work after counts) status
+    whole_of =
         let is = is_noted notes in
-        law.whole (runs_over store schema program) work status did told run runs after counts is.noted (is.behind told.world) ends
+        whole (promise_of asked) (row_of asked) work status did told run this after counts is.noted
+        (is.behind told.world)

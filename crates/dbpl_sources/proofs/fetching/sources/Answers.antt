@@ -1,5 +1,5 @@
 -- Each file is fetched behind those before it, and the first that can't be read stops all.
-use Rattle.std.proofs.Common.{◌≡◌, ◌∙◌, ◌≤◌, ◌+◌, ℕ, Err, List, [], ◌∷◌, ◌++◌, Vec, arith, ap, get_or, length, length-append, map, refl, subst, sym}
+use Rattle.std.proofs.Common.{◌∙◌, ◌≤◌, ◌+◌, ℕ, Err, List, [], ◌∷◌, arith, ap, get_or, length, length-append, subst, sym}
 use Rattle.std.proofs.lemmas.List.{map-append}
 use Rattle.std.proofs.lemmas.List.Elements.{All-push}
 use Rattle.std.proofs.lemmas.Result.{err_from_is_err_and}
@@ -7,9 +7,8 @@ use Rattle.std.specs.Borrow.{Bor}
 use Rattle.dbpl_base.specs.declared.limits.TheConstants.{SOURCE_BYTES}
 use Rattle.dbpl_base.specs.declared.status.Status.{Status}
 use Rattle.dbpl_promise.specs.Stages.{Stops}
-use Rattle.dbpl_promise.specs.Work.{Work}
 use Rattle.dbpl_sources.proofs.Fetched.{all_passed, fetch_handed, fetch_since, fetched_well, one_more, stops_here}
-use Rattle.dbpl_sources.specs.Fetching.{all_fetched, fetched}
+use Rattle.dbpl_sources.specs.Fetching.{fetched}
 use Rattle.dbpl_sources.proofs.fetching.sources.Goals as goal
 
 -- the name of a file, and the one that stands where there is none

@@ -1,5 +1,5 @@
 -- The files were fetched in their order, and the two texts are those that were read.
-use Rattle.std.proofs.Common.{◌∙◌, Err, List, [], ◌∷◌, ap, inr, subst, sym}
+use Rattle.std.proofs.Common.{◌∙◌, Err, [], ◌∷◌, ap, inr, subst, sym}
 use Rattle.std.proofs.lemmas.Result.{err_from_is_err_and}
 use Rattle.dbpl_base.specs.declared.status.Status.{Status}
 use Rattle.dbpl_promise.specs.Stages.{Stops}

@@ -1,6 +1,7 @@
 -- What the first command leaves is what the second one runs over.
-use Rattle.std.proofs.Common.{subst, sym}
+use Rattle.std.proofs.Common.{refl, subst, sym}
 use Rattle.std.specs.Prelude.{IsSome}
+use Rattle.dbpl_promise.proofs.Rows.{BeginsAs}
 use Rattle.dbpl_promise.specs.Work.{IsTold, work_of}
 use Rattle.dbpl_tool.proofs.Following.{as_read, leaves_store, runs_over_files, stood_for}
 use Rattle.dbpl_tool.proofs.next.one_behind_another.Goals as goal
@@ -37,9 +38,11 @@ returns g c = λ told.
       });
       stood = λ store leaves. leaves_store c.args.words.now first c.dbpl-first.result told_first all store c.dbpl-first.ensures.answers leaves;
       tied = λ store leaves run over runs.
-          let here = runs_over_files c.args.next.now _ (g.S.Shelf.files c.dbpl-first.new.shelf) (g.S.Shelf.shelf_faults c.dbpl-first.new.shelf)
-          (g.S.Shelf.shelf_faults c.dbpl-second.new.shelf) (g.W.World.history c.dbpl-second.new.world) (g.W.World.counts c.dbpl-first.new.world)
-          (g.W.World.counts c.dbpl-second.new.world) run (sym same) runs in
+          let both = work_of g.S.Shelf g.W.World c.args.shelf.now c.dbpl-second.new.shelf c.args.world.now
+          c.dbpl-second.new.world in
+          let later = record both { before = g.W.World.history c.dbpl-first.new.world } in
+          let begins : BeginsAs later second = record { files = sym same; tells = refl; before = refl } in
+          let here = runs_over_files c.args.next.now later second run begins runs in
           c.dbpl-second.ensures.headline told_second run here
           (stood_for c.args.next.now second store run told.world over here
           (as_read store (now (g.W.World.history c.dbpl-first.new.world)) all

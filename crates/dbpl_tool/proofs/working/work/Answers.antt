@@ -2,7 +2,7 @@
 use Rattle.std.proofs.Common.{◌∙◌, ap, sym}
 use Rattle.dbpl_promise.specs.Promises.{Answered}
 use Rattle.dbpl_promise.specs.Work.{Work, work_of}
-use Rattle.dbpl_tool.proofs.Requests.{kept_as, no_bad_words}
+use Rattle.dbpl_tool.proofs.Rows.{kept_as, no_bad_words}
 use Rattle.dbpl_tool.proofs.working.work.Given as given
 use Rattle.dbpl_tool.proofs.working.work.Goals as goal
 use Rattle.dbpl_tool.specs.Commands.{promise_of}
